@@ -52,7 +52,7 @@ enum clsm_code {
     CLSM_OK = 0,
 
     CLSM_NOT_FOUND = 1, /* the key has no value */
-    CLSM_KEPT = 2,      /* the value was kept as it was */
+    CLSM_KEPT = 2,      /* nothing was written: what is there does not fit the change or batch */
     CLSM_DONE = 3,      /* the scan has no row left */
     CLSM_IDLE = 4,      /* nothing was written since the last merge */
 
@@ -61,6 +61,7 @@ enum clsm_code {
     CLSM_RACED = 10,     /* another write was faster */
     CLSM_OVERTAKEN = 11, /* a reader found it unfinished for too long, and cancelled it */
     CLSM_PINNED = 12,    /* a read that is running still holds what a merge replaced */
+    CLSM_CONFLICT = 13,  /* what the transaction read does not stand any more: run it again */
 
     CLSM_MEMORY = 16,    /* memory ran out */
     CLSM_NO_SEAT = 17,   /* CLSM_SEATS callers, snapshots and scans are open */
@@ -96,6 +97,7 @@ typedef struct clsm_caller clsm_caller;
 typedef struct clsm_snapshot clsm_snapshot;
 typedef struct clsm_scan clsm_scan;
 typedef struct clsm_walk clsm_walk;
+typedef struct clsm_transaction clsm_transaction;
 
 /* The first length of the words. Length 0 is no value, wherever a value is asked for or answered: a
  * key that has none, one that is to have none, a row of a batch that removes its key. In answers
@@ -119,6 +121,11 @@ typedef struct {
     uint64_t rows, next;
     bool more;
 } clsm_page_end;
+
+/* The keys from first to last, both included, and how many of them are to have a value. */
+typedef struct {
+    uint64_t first, last, keys;
+} clsm_range_count;
 
 #define CLSM_MERGE_IN_CALLS 1
 
@@ -268,6 +275,24 @@ int clsm_try_remove(clsm_caller *caller, uint64_t key);
  * written then. */
 int clsm_batch(clsm_caller *caller, const clsm_row *rows, size_t count);
 
+/* Writes all rows at one moment, as clsm_batch, if what is expected is there at that moment: each
+ * row of expected asks that its key has its value, or none if its length is 0, and each of counts
+ * asks that so many keys of its range have one. So a caller reads, decides, and writes if all that
+ * it read still stands; a range is the same if its rows and their number are. Values are compared,
+ * not when they were written. Conditions of one key count each for itself. With no row, it tests
+ * the conditions alone, at clsm_time. Each pointer may be null if its count is 0.
+ *
+ * It waits as clsm_batch does. No other write runs while it tests: that costs a clsm_get for each
+ * row of expected, and a visit of each key of the ranges. It takes memory while it runs.
+ *
+ * OK. KEPT: nothing was written, since not all conditions hold at clsm_time; the first one that
+ * does not is at *unmet_or_null, where counts are numbered behind the rows of expected; that is a
+ * read. Refused as clsm_batch is, but for EMPTY_BATCH: BAD_VALUE also if an expected value has more
+ * than eight words. *unmet_or_null is as before if the answer is not KEPT. */
+int clsm_batch_if(clsm_caller *caller, const clsm_row *expected, size_t expected_count,
+                  const clsm_range_count *counts, size_t counts_count, const clsm_row *rows,
+                  size_t count, size_t *unmet_or_null);
+
 /* ---- Changes
  *
  * A change reads the key and writes it in one step: no other write of the key comes between.
@@ -299,12 +324,19 @@ int clsm_replace(clsm_caller *caller, uint64_t key, const clsm_value *expected_o
  * A read gives the map as it is at one moment. It blocks for no write and no merge: where it finds
  * a write that has begun and not ended, it looks again, as often as the option patience says, and
  * then cancels that write, which is made again. So a get is wait-free, and so is a read of many
- * rows but for two things: malloc may lock, where it takes memory, and clsm_count and a page of
- * more than 512 rows may take a mutex for a moment. A range has all keys from first to last, both
- * included, and none if first > last. */
+ * rows but for two things: malloc may lock, where it takes memory, and clsm_count, a page of
+ * more than 512 rows, and a clsm_get_many of more than 256 keys may take a mutex for a moment. A
+ * range has all keys from first to last, both included, and none if first > last. */
 
 /* The value of the key. OK; NOT_FOUND, with length 0. BAD_POINTER. */
 int clsm_get(clsm_caller *caller, uint64_t key, clsm_value *value_or_null);
+
+/* The values of so many keys at one moment, each at the place of its key: length 0 where the key
+ * has none. Costs less than as many calls of clsm_get, and takes no memory. More than 256 keys are
+ * read in parts, and that is a snapshot while it runs. The pointers may be null if count is 0.
+ *
+ * OK. BAD_POINTER: the values are as before. */
+int clsm_get_many(clsm_caller *caller, const uint64_t *keys, size_t count, clsm_value *values);
 
 /* How many keys of the range have a value. Visits each of them; while it runs, it is a snapshot.
  * OK; BAD_POINTER. */
@@ -318,6 +350,18 @@ int clsm_count(clsm_caller *caller, uint64_t first, uint64_t last, uint64_t *key
  * OK. BAD_POINTER: end and rows are as before. */
 int clsm_page(clsm_caller *caller, uint64_t first, uint64_t last, clsm_row *rows, size_t room,
               clsm_page_end *end);
+
+/* As clsm_page, but by falling key: the last rows of the range, from its end on. If end->more, the
+ * last key of the next page is end->next. Each row costs a search in what was written since the
+ * last merges, where a page upwards goes on from the row before. */
+int clsm_page_down(clsm_caller *caller, uint64_t last, uint64_t first, clsm_row *rows, size_t room,
+                   clsm_page_end *end);
+
+/* The row of the least key of the range that has a value, and that of the greatest one. Passes keys
+ * that were removed since the last merges, one by one. OK; NOT_FOUND, BAD_POINTER: the row is as
+ * before. */
+int clsm_first(clsm_caller *caller, uint64_t first, uint64_t last, clsm_row *row);
+int clsm_last(clsm_caller *caller, uint64_t first, uint64_t last, clsm_row *row);
 
 /* ---- Snapshots
  *
@@ -347,11 +391,18 @@ uint64_t clsm_snapshot_time(const clsm_snapshot *snapshot);
 /* As clsm_number. */
 unsigned clsm_snapshot_number(const clsm_snapshot *snapshot);
 
-/* As clsm_get, clsm_count and clsm_page, of the snapshot's map. */
+/* As clsm_get, clsm_get_many, clsm_count, clsm_page, clsm_page_down, clsm_first and clsm_last, of
+ * the snapshot's map. */
 int clsm_snapshot_get(clsm_snapshot *snapshot, uint64_t key, clsm_value *value_or_null);
+int clsm_snapshot_get_many(clsm_snapshot *snapshot, const uint64_t *keys, size_t count,
+                           clsm_value *values);
 int clsm_snapshot_count(clsm_snapshot *snapshot, uint64_t first, uint64_t last, uint64_t *keys);
 int clsm_snapshot_page(clsm_snapshot *snapshot, uint64_t first, uint64_t last, clsm_row *rows,
                        size_t room, clsm_page_end *end);
+int clsm_snapshot_page_down(clsm_snapshot *snapshot, uint64_t last, uint64_t first, clsm_row *rows,
+                            size_t room, clsm_page_end *end);
+int clsm_snapshot_first(clsm_snapshot *snapshot, uint64_t first, uint64_t last, clsm_row *row);
+int clsm_snapshot_last(clsm_snapshot *snapshot, uint64_t first, uint64_t last, clsm_row *row);
 
 /* ---- Scans
  *
@@ -389,6 +440,67 @@ int clsm_walk_next(clsm_walk *walk, clsm_row *row);
 
 /* Ends a walk, wherever it is. Null is allowed. */
 void clsm_walk_close(clsm_walk *walk);
+
+/* ---- Transactions
+ *
+ * A transaction reads the map of one moment, which is that of its first read, with its own writes
+ * in it; and its writes are made at one later moment, all of them, if all that it read still has
+ * the same values then. So transactions are serializable: they have the effect that they would have
+ * one after another, in the order of their times. Nobody waits while one is open. If a conflict
+ * answers its end, run it again, from its first read on:
+ *
+ *     do {
+ *         clsm_transaction_get(transaction, 1, &one);
+ *         clsm_transaction_put(transaction, 2, one.words, one.length);
+ *     } while ((code = clsm_transaction_commit(transaction)) == CLSM_CONFLICT);
+ *
+ * It is its caller's: used in one call at a time with it, and closed before it. From its first read
+ * to its end it is a snapshot, with a seat. It keeps in memory each key that it read or is to
+ * write, and each range that it read, with all its rows. */
+
+/* Opens a transaction. Takes 6 KiB of memory.
+ *
+ * OK. MEMORY, BAD_POINTER: *transaction is null then. */
+int clsm_transaction_open(clsm_caller *caller, clsm_transaction **transaction);
+
+/* The value that the key has to it: what it wrote last, or what it reads. OK; NOT_FOUND, with
+ * length 0. NO_SEAT, only for its first read; MEMORY, BAD_POINTER: it goes on as it was. */
+int clsm_transaction_get(clsm_transaction *transaction, uint64_t key, clsm_value *value_or_null);
+
+/* The same of several keys, as clsm_get_many. OK; NO_SEAT, MEMORY, BAD_POINTER: the values are as
+ * before. */
+int clsm_transaction_get_many(clsm_transaction *transaction, const uint64_t *keys, size_t count,
+                              clsm_value *values);
+
+/* The first rows of the range, as clsm_page, with its own writes among them. It has read the range
+ * up to the last row, or up to the key of the next one. OK. NO_SEAT, MEMORY: end is as before.
+ * BAD_POINTER. */
+int clsm_transaction_page(clsm_transaction *transaction, uint64_t first, uint64_t last,
+                          clsm_row *rows, size_t room, clsm_page_end *end);
+
+/* Notes a write of so many words, 1 to 8, at the key, or the removal of the key: of several the
+ * last one counts. OK. BAD_VALUE, MEMORY, BAD_POINTER: nothing was noted. */
+int clsm_transaction_put(clsm_transaction *transaction, uint64_t key, const uint64_t *words,
+                         size_t count);
+int clsm_transaction_remove(clsm_transaction *transaction, uint64_t key);
+
+/* Adds to the word of the key, as clsm_add: reads it, and notes the sum. OK; KEPT if the value has
+ * several words, or the sum passes 2^64 - 1. NO_SEAT, MEMORY, BAD_POINTER: nothing was noted. */
+int clsm_transaction_add(clsm_transaction *transaction, uint64_t key, uint64_t by,
+                         clsm_changed *changed_or_null);
+
+/* Ends the transaction: makes its writes as clsm_batch_if does, and waits as that. One that has
+ * written nothing ends at the moment of its reads, and always with OK. Whatever the answer, it has
+ * read and written nothing now, and may be used anew; another read is of a new moment.
+ *
+ * OK, at clsm_time. CONFLICT: nothing was written, as another one has changed what was read; it has
+ * paused, the longer the more conflicts there were in a row, up to a millisecond. RUN_FULL,
+ * VERSIONS_FULL, OWN_SNAPSHOT, WORN, MEMORY, BAD_BATCH if it is to write more keys than an epoch
+ * has writes, BAD_POINTER: nothing was written. */
+int clsm_transaction_commit(clsm_transaction *transaction);
+
+/* Closes a transaction; what it noted is not written. Null is allowed. */
+void clsm_transaction_close(clsm_transaction *transaction);
 
 /* ---- For other languages
  *

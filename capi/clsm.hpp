@@ -29,6 +29,7 @@
 #include <stdexcept>
 #include <string>
 #include <system_error>
+#include <type_traits>
 #include <utility>
 #include <vector>
 
@@ -88,6 +89,7 @@ struct closer {
     void operator()(clsm_snapshot *snapshot) const noexcept { clsm_snapshot_close(snapshot); }
     void operator()(clsm_scan *scan) const noexcept { clsm_scan_close(scan); }
     void operator()(clsm_walk *walk) const noexcept { clsm_walk_close(walk); }
+    void operator()(clsm_transaction *transaction) const noexcept { clsm_transaction_close(transaction); }
 };
 
 template <class Handle> using owned = std::unique_ptr<Handle, closer>;
@@ -205,6 +207,41 @@ private:
     std::vector<clsm_row> rows_;
 };
 
+// What a batch expects to find. Values are compared, not when they were written.
+class conditions {
+public:
+    // The key has this value; it has none; it still has what a get answered.
+    conditions &has(std::uint64_t key, const value &value) {
+        rows_.push_back({key, value.raw()});
+        return *this;
+    }
+    conditions &has_none(std::uint64_t key) {
+        rows_.push_back({key, {}});
+        return *this;
+    }
+    conditions &still(std::uint64_t key, const std::optional<value> &found) {
+        return found ? has(key, *found) : has_none(key);
+    }
+    // So many keys from first to last, both included, have a value.
+    conditions &count(std::uint64_t first, std::uint64_t last, std::uint64_t keys) {
+        counts_.push_back({first, last, keys});
+        return *this;
+    }
+    std::size_t size() const noexcept { return rows_.size() + counts_.size(); }
+    bool empty() const noexcept { return size() == 0; }
+    void clear() noexcept {
+        rows_.clear();
+        counts_.clear();
+    }
+    // For calls of clsm.h.
+    const std::vector<clsm_row> &raw_rows() const noexcept { return rows_; }
+    const std::vector<clsm_range_count> &raw_counts() const noexcept { return counts_; }
+
+private:
+    std::vector<clsm_row> rows_;
+    std::vector<clsm_range_count> counts_;
+};
+
 // ---- Rows one after another
 
 namespace detail {
@@ -212,6 +249,24 @@ namespace detail {
 constexpr std::uint64_t greatest_key = UINT64_MAX;
 
 inline row row_of(const clsm_row &raw) { return {raw.key, *value::from(raw.value)}; }
+
+// The row that a call of clsm.h finds, if it finds one.
+template <class Call> std::optional<row> find_row(Call call) {
+    clsm_row raw;
+    const int code = call(&raw);
+    thrower()(code);
+    return code == CLSM_OK ? std::optional<row>(row_of(raw)) : std::nullopt;
+}
+
+// The values that a call of clsm.h reads.
+template <class Call>
+std::vector<std::optional<value>> read_many(const std::vector<std::uint64_t> &keys, Call call) {
+    std::vector<clsm_value> raw(keys.size());
+    thrower()(call(keys.data(), keys.size(), raw.data()));
+    std::vector<std::optional<value>> values(keys.size());
+    std::transform(raw.begin(), raw.end(), values.begin(), value::from);
+    return values;
+}
 
 // An iterator over what a source reads: `bool read(clsm_row &)` is false behind the last row.
 template <class Source> class iterator {
@@ -265,17 +320,17 @@ private:
     std::optional<row> row_;
 };
 
-// Reads the page at the handle by a call of clsm.h.
+// Reads the page at the handle by a call of clsm.h: from one end of the range to the other.
 template <class Call, class Done>
-page read_page(Call call, std::uint64_t first, std::uint64_t last, std::size_t most, Done done) {
+page read_page(Call call, std::uint64_t from, std::uint64_t to, std::size_t most, Done done) {
     constexpr std::size_t at_once = 512;
     page page;
     std::vector<clsm_row> rows(std::min(most, at_once));
-    clsm_page_end end = {0, first, true};
+    clsm_page_end end = {0, from, true};
     int code = CLSM_OK;
     // One call is of one moment, so there is room for all rows in the last.
     for (;;) {
-        code = call(first, last, rows.data(), rows.size(), &end);
+        code = call(from, to, rows.data(), rows.size(), &end);
         if (code != CLSM_OK || !end.more || rows.size() == most) break;
         rows.resize(most / 4 < rows.size() ? most : 4 * rows.size());
     }
@@ -341,6 +396,18 @@ public:
         return value::from(found);
     }
     bool contains(std::uint64_t key) const { return get(key).has_value(); }
+    // The values of the keys, each at the place of its key.
+    std::vector<std::optional<value>> get_many(const std::vector<std::uint64_t> &keys) const {
+        return detail::read_many(
+            keys, [this](auto... arguments) { return clsm_snapshot_get_many(raw(), arguments...); });
+    }
+    // The rows of the least and of the greatest key from first to last that have a value.
+    std::optional<row> first(std::uint64_t first = 0, std::uint64_t last = detail::greatest_key) const {
+        return detail::find_row([&](clsm_row *row) { return clsm_snapshot_first(raw(), first, last, row); });
+    }
+    std::optional<row> last(std::uint64_t first = 0, std::uint64_t last = detail::greatest_key) const {
+        return detail::find_row([&](clsm_row *row) { return clsm_snapshot_last(raw(), first, last, row); });
+    }
     // The keys from first to last, both included, that have a value: visits each of them.
     std::uint64_t count(std::uint64_t first = 0, std::uint64_t last = detail::greatest_key) const {
         std::uint64_t keys = 0;
@@ -353,9 +420,14 @@ public:
     clsm::page page(std::uint64_t first, std::uint64_t last, std::size_t most, std::error_code &code) const {
         return page_with(first, last, most, detail::setter{code});
     }
+    // By falling key: the next page begins at `next` downwards.
+    clsm::page page_down(std::uint64_t last, std::uint64_t first, std::size_t most) const {
+        const auto call = [this](auto... arguments) { return clsm_snapshot_page_down(raw(), arguments...); };
+        return detail::read_page(call, last, first, most, detail::thrower());
+    }
 
-    // The rows from first to last, both included; the snapshot lives longer. Reads 64 at a time, and
-    // throws error if memory runs out.
+    // The rows from first to last, both included, or by falling key; the snapshot lives longer. Reads
+    // 64 at a time, and throws error if memory runs out.
     class rows {
     public:
         using iterator = detail::iterator<rows>;
@@ -365,8 +437,7 @@ public:
         bool read(clsm_row &row) {
             while (at_ == end_.rows) {
                 if (!end_.more) return false;
-                detail::thrower()(
-                    clsm_snapshot_page(snapshot_, end_.next, last_, read_.data(), read_.size(), &end_));
+                detail::thrower()(page_(snapshot_, end_.next, end_of_range_, read_.data(), read_.size(), &end_));
                 at_ = 0;
             }
             row = read_[at_++];
@@ -375,20 +446,26 @@ public:
 
     private:
         friend class snapshot;
-        rows(clsm_snapshot *of, std::uint64_t first, std::uint64_t last)
-            : snapshot_(of), last_(last), end_{0, first, true} {}
+        using paging = int(clsm_snapshot *, std::uint64_t, std::uint64_t, clsm_row *, std::size_t, clsm_page_end *);
+        rows(clsm_snapshot *of, paging *page, std::uint64_t from, std::uint64_t to)
+            : snapshot_(of), page_(page), end_of_range_(to), end_{0, from, true} {}
         clsm_snapshot *snapshot_;
-        std::uint64_t last_;
+        paging *page_;
+        std::uint64_t end_of_range_;
         clsm_page_end end_;
         std::size_t at_ = 0;
         std::array<clsm_row, 64> read_;
     };
 
     rows range(std::uint64_t first = 0, std::uint64_t last = detail::greatest_key) const & {
-        return {raw(), first, last};
+        return {raw(), clsm_snapshot_page, first, last};
+    }
+    rows range_down(std::uint64_t last = detail::greatest_key, std::uint64_t first = 0) const & {
+        return {raw(), clsm_snapshot_page_down, last, first};
     }
     // One that is a temporary would be closed before the first row: give it a name.
     rows range(std::uint64_t first = 0, std::uint64_t last = detail::greatest_key) const && = delete;
+    rows range_down(std::uint64_t last = detail::greatest_key, std::uint64_t first = 0) const && = delete;
 
     // The time at which it reads.
     std::uint64_t time() const noexcept { return clsm_snapshot_time(raw()); }
@@ -409,6 +486,54 @@ private:
     detail::handle<clsm_snapshot> handle_;
 };
 
+// ---- Transactions
+
+// Reads the map of one moment, with its own writes in it. They are made at one later moment, if all
+// that it read still stands then: caller::transact runs a function on one until they are. Throws
+// error if memory runs out, or no seat is left for its first read.
+class transaction {
+public:
+    std::optional<value> get(std::uint64_t key) {
+        clsm_value found;
+        detail::thrower()(clsm_transaction_get(raw(), key, &found));
+        return value::from(found);
+    }
+    bool contains(std::uint64_t key) { return get(key).has_value(); }
+    std::vector<std::optional<value>> get_many(const std::vector<std::uint64_t> &keys) {
+        return detail::read_many(
+            keys, [this](auto... arguments) { return clsm_transaction_get_many(raw(), arguments...); });
+    }
+    // The first rows from first to last, both included: the range is read up to the last of them,
+    // or up to `next`.
+    clsm::page page(std::uint64_t first, std::uint64_t last, std::size_t most) {
+        const auto call = [this](auto... arguments) { return clsm_transaction_page(raw(), arguments...); };
+        return detail::read_page(call, first, last, most, detail::thrower());
+    }
+    void put(std::uint64_t key, const value &value) {
+        detail::thrower()(clsm_transaction_put(raw(), key, value.data(), value.size()));
+    }
+    void remove(std::uint64_t key) { detail::thrower()(clsm_transaction_remove(raw(), key)); }
+    // Adds to the word of the key. Not written if the value has several words, or the sum passes
+    // 2^64 - 1.
+    change add(std::uint64_t key, std::uint64_t by) {
+        clsm_changed changed = {};
+        const int code = clsm_transaction_add(raw(), key, by, &changed);
+        detail::thrower()(code);
+        return {code == CLSM_OK, value::from(changed.before), value::from(changed.after)};
+    }
+    // For calls of clsm.h.
+    clsm_transaction *raw() const noexcept { return own_.get(); }
+
+private:
+    friend class caller;
+    explicit transaction(clsm_caller *caller) {
+        clsm_transaction *opened = nullptr;
+        detail::thrower()(clsm_transaction_open(caller, &opened));
+        own_.reset(opened);
+    }
+    detail::owned<clsm_transaction> own_;
+};
+
 // ---- Callers
 
 // A thread's access to the store.
@@ -426,6 +551,34 @@ public:
     }
     void write(const batch &batch) { detail::thrower()(write_raw(batch)); }
     void write(const batch &batch, std::error_code &code) noexcept { detail::setter{code}(write_raw(batch)); }
+
+    // Writes the batch if all conditions hold at its moment; tests them alone if that is empty.
+    // Answers whether they hold. If not, the place of the first one that does not is left at *unmet:
+    // those of keys are numbered in their order, and behind them those of ranges.
+    bool write_if(const conditions &conditions, const batch &batch, std::size_t *unmet = nullptr) {
+        return write_if_with(conditions, batch, unmet, detail::thrower());
+    }
+    bool write_if(const conditions &conditions, const batch &batch, std::error_code &code,
+                  std::size_t *unmet = nullptr) noexcept {
+        return write_if_with(conditions, batch, unmet, detail::setter{code});
+    }
+
+    // Runs the function on a transaction and commits that: again after a conflict, and a pause, so
+    // many times at most, and then throws error with CLSM_CONFLICT. Answers what the function does.
+    // What the function throws ends it, and nothing is written. As it may run several times, it
+    // should do nothing but read and write by its transaction.
+    template <class Function> auto transact(Function function, unsigned tries = 100) {
+        clsm::transaction transaction(raw());
+        for (unsigned made = 1;; made++) {
+            if constexpr (std::is_void_v<decltype(function(transaction))>) {
+                function(transaction);
+                if (ends(transaction, made < tries)) return;
+            } else {
+                auto answer = function(transaction);
+                if (ends(transaction, made < tries)) return answer;
+            }
+        }
+    }
 
     // ---- changes: they read the key and write it in one step
 
@@ -469,6 +622,17 @@ public:
         return value::from(found);
     }
     bool contains(std::uint64_t key) const { return get(key).has_value(); }
+    // The values of the keys at one moment, each at the place of its key.
+    std::vector<std::optional<value>> get_many(const std::vector<std::uint64_t> &keys) const {
+        return detail::read_many(keys, [this](auto... arguments) { return clsm_get_many(raw(), arguments...); });
+    }
+    // The rows of the least and of the greatest key from first to last that have a value.
+    std::optional<row> first(std::uint64_t first = 0, std::uint64_t last = detail::greatest_key) const {
+        return detail::find_row([&](clsm_row *row) { return clsm_first(raw(), first, last, row); });
+    }
+    std::optional<row> last(std::uint64_t first = 0, std::uint64_t last = detail::greatest_key) const {
+        return detail::find_row([&](clsm_row *row) { return clsm_last(raw(), first, last, row); });
+    }
     // The keys from first to last, both included, that have a value: visits each of them.
     std::uint64_t count(std::uint64_t first = 0, std::uint64_t last = detail::greatest_key) const {
         std::uint64_t keys = 0;
@@ -480,6 +644,11 @@ public:
     }
     clsm::page page(std::uint64_t first, std::uint64_t last, std::size_t most, std::error_code &code) const {
         return page_with(first, last, most, detail::setter{code});
+    }
+    // By falling key: the next page begins at `next` downwards.
+    clsm::page page_down(std::uint64_t last, std::uint64_t first, std::size_t most) const {
+        const auto call = [this](auto... arguments) { return clsm_page_down(raw(), arguments...); };
+        return detail::read_page(call, last, first, most, detail::thrower());
     }
 
     // ---- rows one after another, from first to last, both included
@@ -519,6 +688,24 @@ private:
         return clsm_put(raw(), key, value.data(), value.size());
     }
     int write_raw(const batch &batch) noexcept { return clsm_batch(raw(), batch.raw().data(), batch.size()); }
+
+    // Whether it was committed; if not, it is run again.
+    static bool ends(const transaction &transaction, bool may_run_again) {
+        const int code = clsm_transaction_commit(transaction.raw());
+        if (code == CLSM_CONFLICT && may_run_again) return false;
+        detail::thrower()(code);
+        return true;
+    }
+
+    template <class Done>
+    bool write_if_with(const conditions &conditions, const batch &batch, std::size_t *unmet, Done done) {
+        const std::vector<clsm_row> &rows = conditions.raw_rows();
+        const std::vector<clsm_range_count> &counts = conditions.raw_counts();
+        const int code = clsm_batch_if(raw(), rows.data(), rows.size(), counts.data(), counts.size(),
+                                       batch.raw().data(), batch.size(), unmet);
+        done(code);
+        return code == CLSM_OK;
+    }
 
     static change change_of(int code, const clsm_changed &raw) {
         return {code == CLSM_OK, value::from(raw.before), value::from(raw.after)};

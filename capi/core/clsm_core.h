@@ -118,7 +118,7 @@ enum {
 
 /* The core defines this name, which changes with this header: with a core of another
  * interface, a program does not link. */
-#define CLSM_CORE_INTERFACE clsm_core_interface_16905e9960f1
+#define CLSM_CORE_INTERFACE clsm_core_interface_many_by_hand
 extern const char CLSM_CORE_INTERFACE;
 
 /* The handle of a store: the callers and the merger that nobody has taken yet. */
@@ -183,6 +183,14 @@ typedef struct clsm_core_range {
     uint64_t first;
     uint64_t last;
 } clsm_core_range;
+
+/* The keys from the first to the last, both included, and how many of them are expected to have a
+ * value. */
+typedef struct clsm_core_range_count {
+    uint64_t first;
+    uint64_t last;
+    uint64_t keys;
+} clsm_core_range_count;
 
 /* How many timestamps of an epoch are enough to freeze it. */
 typedef struct clsm_core_used {
@@ -249,6 +257,12 @@ typedef struct clsm_core_paged {
     bool more;
 } clsm_core_paged;
 
+/* The time of a batch with conditions, and the place of the first one that does not hold. */
+typedef struct clsm_core_unmet {
+    uint64_t time;
+    uint64_t index;
+} clsm_core_unmet;
+
 /* ---- stores */
 
 /* Answers how many bytes each kind of handle takes. The types of handles have that room. */
@@ -307,6 +321,18 @@ uint32_t clsm_core_try_remove(clsm_core_caller *caller, const clsm_core_key *ask
 uint32_t clsm_core_try_batch(clsm_core_caller *caller, const clsm_core_row *rows, size_t count,
                              clsm_core_time *answer);
 
+/* Writes the rows as clsm_core_try_batch does if all conditions hold at the batch's time: each key
+ * of the expected rows has the row's value, or none where that is no value; and of each range so
+ * many keys have a value. Answers CLSM_CORE_OK and the time of the first row; or CLSM_CORE_KEPT, the
+ * clock's time, and the place of the first condition that does not hold at that time, the ranges
+ * behind the rows: nothing was written then. With no row to write it answers CLSM_CORE_OK at a time
+ * at which all conditions hold. Refused as clsm_core_try_batch, and with CLSM_CORE_BAD_VALUE if an
+ * expected value has more than eight words. */
+uint32_t clsm_core_try_batch_if(clsm_core_caller *caller, const clsm_core_row *expected,
+                                size_t expected_count, const clsm_core_range_count *counts,
+                                size_t counts_count, const clsm_core_row *rows, size_t count,
+                                clsm_core_unmet *answer);
+
 /* ---- a caller's read-modify-writes */
 
 /* Adds a number to the key's word, which counts as 0 if the key has no value, and answers
@@ -343,6 +369,17 @@ uint32_t clsm_core_close_snapshot(clsm_core_caller *caller, clsm_core_time *answ
 uint32_t clsm_core_get_at(clsm_core_caller *caller, const clsm_core_key *ask,
                           clsm_core_got *answer);
 
+/* Reads each key at one time, which is the clock's, and writes its value at the same place, with
+ * length 0 if the key has none: as many keys as there are of both. Answers CLSM_CORE_OK and that
+ * time. It is never refused. */
+uint32_t clsm_core_get_many(clsm_core_caller *caller, const clsm_core_key *keys, size_t count,
+                            clsm_core_value *values, size_t room, clsm_core_time *answer);
+
+/* Reads each key below the time of the caller's open snapshot, as clsm_core_get_many. Refused with
+ * CLSM_CORE_NO_SNAPSHOT: the values are as before. */
+uint32_t clsm_core_get_many_at(clsm_core_caller *caller, const clsm_core_key *keys, size_t count,
+                               clsm_core_value *values, size_t room, clsm_core_time *answer);
+
 /* Counts the keys of the range that have a value: below the time of the caller's open snapshot, or
  * else at a time of its own, which is the clock's. Answers CLSM_CORE_OK, that time and the number,
  * which is 0 if the first key is above the last. It looks at each key of the range. */
@@ -355,6 +392,11 @@ uint32_t clsm_core_count(clsm_core_caller *caller, const clsm_core_range *ask,
  * page begins, if there are more. */
 uint32_t clsm_core_page(clsm_core_caller *caller, const clsm_core_range *ask, clsm_core_row *rows,
                         size_t count, clsm_core_paged *answer);
+
+/* Fills rows by falling key, as clsm_core_page by rising key: the last ones of the range that have a
+ * value. The next page ends at the key that is answered. */
+uint32_t clsm_core_page_down(clsm_core_caller *caller, const clsm_core_range *ask,
+                             clsm_core_row *rows, size_t count, clsm_core_paged *answer);
 
 /* ---- the merger's */
 
@@ -414,6 +456,11 @@ static_assert(sizeof(clsm_core_range) == 16
                   && offsetof(clsm_core_range, first) == 0
                   && offsetof(clsm_core_range, last) == 8,
               "clsm_core_range as the library has it");
+static_assert(sizeof(clsm_core_range_count) == 24
+                  && offsetof(clsm_core_range_count, first) == 0
+                  && offsetof(clsm_core_range_count, last) == 8
+                  && offsetof(clsm_core_range_count, keys) == 16,
+              "clsm_core_range_count as the library has it");
 static_assert(sizeof(clsm_core_used) == 8
                   && offsetof(clsm_core_used, used) == 0,
               "clsm_core_used as the library has it");
@@ -457,6 +504,10 @@ static_assert(sizeof(clsm_core_paged) == 32
                   && offsetof(clsm_core_paged, next) == 16
                   && offsetof(clsm_core_paged, more) == 24,
               "clsm_core_paged as the library has it");
+static_assert(sizeof(clsm_core_unmet) == 16
+                  && offsetof(clsm_core_unmet, time) == 0
+                  && offsetof(clsm_core_unmet, index) == 8,
+              "clsm_core_unmet as the library has it");
 static_assert(sizeof(clsm_core_store) == 192,
               "clsm_core_store as the library has it");
 static_assert(sizeof(clsm_core_caller) == 256,

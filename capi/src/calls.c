@@ -38,6 +38,7 @@ static inline int wrote(struct clsm_seat *seat, const struct write *write) {
     const uint64_t end = *time + write->members;
     seat->time = *time;
     if (seat->seen < end) seat->seen = end;
+    if (write->members == 0) return CLSM_OK; /* conditions alone were tested */
     if (write->entry.is_batch) clsm_note_batch(seat->store, *time);
     if (end > seat->tell_at) clsm_board_tell(seat, end - 1);
     return CLSM_OK;
@@ -180,6 +181,68 @@ int clsm_batch(clsm_caller *caller, const clsm_row *rows, size_t count) {
     return clsm_end(seat, write_or_wait(seat, &write));
 }
 
+/* ---- Batches with conditions */
+
+struct conditions {
+    const struct clsm_seat *seat;
+    const clsm_core_row *expected;
+    size_t expected_count;
+    const clsm_core_range_count *counts;
+    size_t counts_count;
+    const struct clsm_entry *entry;
+};
+
+/* Conditions that are tested alone are a read: one that runs back is made again. */
+static uint32_t attempt_batch_if(clsm_core_caller *core, const void *ask, void *answer) {
+    const struct conditions *of = ask;
+    const struct clsm_entry *entry = of->entry;
+    const clsm_core_unmet *found = answer;
+    uint32_t code = clsm_core_try_batch_if(core, of->expected, of->expected_count, of->counts,
+                                           of->counts_count, entry->rows, entry->count, answer);
+    if (code != CLSM_CORE_OK || entry->count > 0) return code;
+    return found->time < of->seat->seen ? CLSM_CORE_RACED : CLSM_CORE_OK;
+}
+
+/* Whether one of the pointers is null that has something behind it. */
+static bool lacks_rows(const clsm_row *rows, size_t count, const struct conditions *of) {
+    return (!rows && count > 0) || (!of->expected && of->expected_count > 0)
+           || (!of->counts && of->counts_count > 0);
+}
+
+/* Writes the rows if the conditions hold, and answers where one is that does not. */
+static int write_if(struct clsm_seat *seat, struct conditions *of, const clsm_row *rows,
+                    size_t count, size_t *unmet_or_null) {
+    static const clsm_core_row none;
+    static const clsm_core_range_count nowhere;
+    clsm_core_unmet answer;
+    if (lacks_rows(rows, count, of)) return CLSM_BAD_POINTER;
+    if (count > seat->store->cells) return CLSM_BAD_BATCH;
+    if (!of->expected) of->expected = &none;
+    if (!of->counts) of->counts = &nowhere;
+    struct write write = {attempt_batch_if, of, &answer, count, {.is_batch = true}};
+    write.entry.growth = CLSM_ROWS_GROW;
+    write.entry.rows = rows ? (const clsm_core_row *)(const void *)rows : &none;
+    write.entry.count = count;
+    write.entry.removals = count_removals(rows, count);
+    of->entry = &write.entry;
+    int code = write_or_wait(seat, &write);
+    if (code == CLSM_KEPT && unmet_or_null) *unmet_or_null = (size_t)answer.index;
+    return code;
+}
+
+int clsm_batch_if(clsm_caller *caller, const clsm_row *expected, size_t expected_count,
+                  const clsm_range_count *counts, size_t counts_count, const clsm_row *rows,
+                  size_t count, size_t *unmet_or_null) {
+    struct clsm_seat *seat = (struct clsm_seat *)caller;
+    int refused = clsm_begin(seat, CLSM_AS_CALLER);
+    if (refused) return refused;
+    struct conditions of = {.seat = seat, .expected_count = expected_count};
+    of.expected = (const clsm_core_row *)(const void *)expected;
+    of.counts = (const clsm_core_range_count *)(const void *)counts;
+    of.counts_count = counts_count;
+    return clsm_end(seat, write_if(seat, &of, rows, count, unmet_or_null));
+}
+
 /* ---- Changes */
 
 /* Makes a change, whose answer has what the key had and has. */
@@ -270,16 +333,21 @@ int clsm_count(clsm_caller *caller, uint64_t first, uint64_t last, uint64_t *key
     return clsm_end(seat, CLSM_OK);
 }
 
-int clsm_page(clsm_caller *caller, uint64_t first, uint64_t last, clsm_row *rows, size_t room,
-              clsm_page_end *end) {
+int clsm_page_of(clsm_caller *caller, struct clsm_span span, clsm_row *rows, size_t room,
+                 clsm_page_end *end) {
     struct clsm_seat *seat = (struct clsm_seat *)caller;
     clsm_core_paged answer;
     int code = clsm_begin(seat, CLSM_AS_CALLER);
     if (code) return code;
     struct clsm_patience patience = CLSM_PATIENCE;
     for (;; clsm_be_patient(&patience)) {
-        code = clsm_read_page(seat, first, last, rows, room, &answer, end);
+        code = clsm_read_page(seat, span, rows, room, &answer, end);
         if (code != CLSM_OK || clsm_is_in_order(seat, answer.time)) break;
     }
     return clsm_end(seat, code);
+}
+
+int clsm_page(clsm_caller *caller, uint64_t first, uint64_t last, clsm_row *rows, size_t room,
+              clsm_page_end *end) {
+    return clsm_page_of(caller, (struct clsm_span){first, last, false}, rows, room, end);
 }

@@ -15,6 +15,7 @@ const char *clsm_strerror(int code) {
     case CLSM_RACED: return "raced";
     case CLSM_OVERTAKEN: return "overtaken";
     case CLSM_PINNED: return "pinned";
+    case CLSM_CONFLICT: return "conflict";
     case CLSM_MEMORY: return "no memory";
     case CLSM_NO_SEAT: return "no seat";
     case CLSM_RUN_FULL: return "too many keys";

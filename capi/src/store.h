@@ -30,6 +30,10 @@ enum { CLSM_LINE = 64, CLSM_SCAN_ROWS = 64, CLSM_SCAN_GROWS = 4 };
 #ifndef CLSM_PART_ROWS
 #define CLSM_PART_ROWS 512
 #endif
+/* So many keys a read of many keys reads at a time. */
+#ifndef CLSM_PART_KEYS
+#define CLSM_PART_KEYS 256
+#endif
 #ifndef CLSM_COUNT_ROWS
 #define CLSM_COUNT_ROWS CLSM_SCAN_ROWS /* at most */
 #endif
@@ -45,6 +49,9 @@ _Static_assert(sizeof(clsm_value) == sizeof(clsm_core_value), "values");
 _Static_assert(offsetof(clsm_value, words) == offsetof(clsm_core_value, words), "words");
 _Static_assert(sizeof(clsm_row) == sizeof(clsm_core_row), "rows");
 _Static_assert(offsetof(clsm_row, value) == offsetof(clsm_core_row, value), "values of rows");
+_Static_assert(sizeof(uint64_t) == sizeof(clsm_core_key), "keys");
+_Static_assert(sizeof(clsm_range_count) == sizeof(clsm_core_range_count), "counts");
+_Static_assert(offsetof(clsm_range_count, keys) == offsetof(clsm_core_range_count, keys), "keys");
 
 /* What a seat is used as. */
 enum clsm_use { CLSM_UNUSED, CLSM_AS_CALLER, CLSM_AS_SNAPSHOT, CLSM_AS_SCAN, CLSM_USES };
@@ -325,7 +332,23 @@ int clsm_note_refusal(clsm_store *store, int code);
 void clsm_count_one(_Atomic(uint64_t) *count);
 void clsm_raise(_Atomic(uint64_t) *greatest, uint64_t number);
 
+/* ---- calls.c */
+
+/* A range to be read by rising key, or by falling key. */
+struct clsm_span {
+    uint64_t first, last;
+    bool falls;
+};
+
+/* Reads a page as a call of the caller's: OK, BAD_POINTER. */
+int clsm_page_of(clsm_caller *caller, struct clsm_span span, clsm_row *rows, size_t room,
+                 clsm_page_end *end);
+
 /* ---- views.c */
+
+/* Reads a page as a call of the snapshot's: OK, BAD_POINTER. */
+int clsm_snapshot_page_of(clsm_snapshot *snapshot, struct clsm_span span, clsm_row *rows,
+                          size_t room, clsm_page_end *end);
 
 /* The oldest open view of all seats, or UINT64_MAX. */
 uint64_t clsm_oldest_view(clsm_store *store);
@@ -336,8 +359,11 @@ bool clsm_has_view(struct clsm_seat *caller);
  * own: the time of the last call is that of the snapshot then. */
 uint64_t clsm_count_keys(struct clsm_seat *seat, uint64_t first, uint64_t last);
 /* Reads a page, at the snapshot of the seat if it has one: OK, BAD_POINTER. */
-int clsm_read_page(struct clsm_seat *seat, uint64_t first, uint64_t last, clsm_row *rows,
-                   size_t room, clsm_core_paged *answer, clsm_page_end *end);
+int clsm_read_page(struct clsm_seat *seat, struct clsm_span span, clsm_row *rows, size_t room,
+                   clsm_core_paged *answer, clsm_page_end *end);
+/* Reads keys at one time, at the snapshot of the seat if it has one: OK, BAD_POINTER. */
+int clsm_read_keys(struct clsm_seat *seat, const uint64_t *keys, size_t count, clsm_value *values,
+                   clsm_core_time *answer);
 
 /* ---- Calls on a handle */
 

@@ -48,42 +48,74 @@ static void close_handle(struct clsm_seat *seat, enum clsm_use use) {
  * A read of the core holds its pin throughout, and a merge that is done waits for that. So a long
  * one is made of short ones, all below one snapshot. */
 
-static void read_part(struct clsm_seat *seat, uint64_t first, uint64_t last, clsm_row *rows,
+static void read_part(struct clsm_seat *seat, const struct clsm_span *span, clsm_row *rows,
                       size_t room, clsm_core_paged *answer) {
-    const clsm_core_range ask = {first, last};
-    clsm_core_page(&seat->core, &ask, (clsm_core_row *)(void *)rows, room, answer);
+    const clsm_core_range ask = {span->first, span->last};
+    clsm_core_row *to = (clsm_core_row *)(void *)rows;
+    if (span->falls) clsm_core_page_down(&seat->core, &ask, to, room, answer);
+    else clsm_core_page(&seat->core, &ask, to, room, answer);
 }
 
 /* Reads a page at the snapshot of the seat. */
-static void read_parts(struct clsm_seat *seat, uint64_t first, uint64_t last, clsm_row *rows,
-                       size_t room, clsm_core_paged *answer) {
+static void read_parts(struct clsm_seat *seat, struct clsm_span span, clsm_row *rows, size_t room,
+                       clsm_core_paged *answer) {
     uint64_t count = 0;
     do {
         const size_t left = room - (size_t)count;
         const size_t part = left < CLSM_PART_ROWS ? left : CLSM_PART_ROWS;
-        read_part(seat, first, last, rows + count, part, answer);
+        read_part(seat, &span, rows + count, part, answer);
         count += answer->rows;
-        first = answer->next;
+        if (span.falls) span.last = answer->next;
+        else span.first = answer->next;
     } while (answer->more && count < room);
     answer->rows = count;
 }
 
 /* Reads a page at the snapshot of the seat, or, if it has none, at one of its own. */
-static void read_long(struct clsm_seat *seat, uint64_t first, uint64_t last, clsm_row *rows,
-                      size_t room, clsm_core_paged *answer) {
+static void read_long(struct clsm_seat *seat, struct clsm_span span, clsm_row *rows, size_t room,
+                      clsm_core_paged *answer) {
     const bool has_view = atomic_load(&seat->view) > 0;
     if (!has_view) open_view(seat, seat->seen);
-    read_parts(seat, first, last, rows, room, answer);
+    read_parts(seat, span, rows, room, answer);
     if (!has_view) close_view(seat);
 }
 
-int clsm_read_page(struct clsm_seat *seat, uint64_t first, uint64_t last, clsm_row *rows,
-                   size_t room, clsm_core_paged *answer, clsm_page_end *end) {
+int clsm_read_page(struct clsm_seat *seat, struct clsm_span span, clsm_row *rows, size_t room,
+                   clsm_core_paged *answer, clsm_page_end *end) {
     clsm_row none = {.key = 0};
     if (!end || (!rows && room > 0)) return CLSM_BAD_POINTER;
-    if (room > CLSM_PART_ROWS) read_long(seat, first, last, rows, room, answer);
-    else read_part(seat, first, last, rows ? rows : &none, room, answer);
+    if (room > CLSM_PART_ROWS) read_long(seat, span, rows, room, answer);
+    else read_part(seat, &span, rows ? rows : &none, room, answer);
     *end = (clsm_page_end){answer->rows, answer->next, answer->more};
+    return CLSM_OK;
+}
+
+/* Reads keys at the snapshot of the seat, in parts. */
+static void read_keys_in_parts(struct clsm_seat *seat, const clsm_core_key *keys, size_t count,
+                               clsm_core_value *values, clsm_core_time *answer) {
+    size_t read = 0;
+    do {
+        const size_t left = count - read;
+        const size_t part = left < CLSM_PART_KEYS ? left : CLSM_PART_KEYS;
+        clsm_core_get_many_at(&seat->core, keys + read, part, values + read, part, answer);
+        read += part;
+    } while (read < count);
+}
+
+int clsm_read_keys(struct clsm_seat *seat, const uint64_t *keys, size_t count, clsm_value *values,
+                   clsm_core_time *answer) {
+    clsm_value none;
+    if (count > 0 && (!keys || !values)) return CLSM_BAD_POINTER;
+    const void *from = count > 0 ? (const void *)keys : &none;
+    void *to = count > 0 ? values : &none;
+    const bool has_view = atomic_load(&seat->view) > 0;
+    if (!has_view && count <= CLSM_PART_KEYS) {
+        clsm_core_get_many(&seat->core, from, count, to, count, answer);
+        return CLSM_OK;
+    }
+    if (!has_view) open_view(seat, seat->seen);
+    read_keys_in_parts(seat, from, count, to, answer);
+    if (!has_view) close_view(seat);
     return CLSM_OK;
 }
 
@@ -104,7 +136,8 @@ static uint64_t count_parts(struct clsm_seat *seat, uint64_t first, uint64_t las
     clsm_core_paged part = {.more = true, .next = first};
     uint64_t keys = 0;
     while (rows && part.more) {
-        read_part(seat, part.next, last, rows, CLSM_COUNT_ROWS, &part);
+        const struct clsm_span left = {.first = part.next, .last = last};
+        read_part(seat, &left, rows, CLSM_COUNT_ROWS, &part);
         keys += part.rows;
     }
     if (!part.more) return keys;
@@ -211,13 +244,18 @@ int clsm_snapshot_count(clsm_snapshot *snapshot, uint64_t first, uint64_t last, 
     return clsm_end(seat, CLSM_OK);
 }
 
-int clsm_snapshot_page(clsm_snapshot *snapshot, uint64_t first, uint64_t last, clsm_row *rows,
-                       size_t room, clsm_page_end *end) {
+int clsm_snapshot_page_of(clsm_snapshot *snapshot, struct clsm_span span, clsm_row *rows,
+                          size_t room, clsm_page_end *end) {
     struct clsm_seat *seat = (struct clsm_seat *)snapshot;
     clsm_core_paged answer;
     int code = clsm_begin(seat, CLSM_AS_SNAPSHOT);
     if (code) return code;
-    return clsm_end(seat, clsm_read_page(seat, first, last, rows, room, &answer, end));
+    return clsm_end(seat, clsm_read_page(seat, span, rows, room, &answer, end));
+}
+
+int clsm_snapshot_page(clsm_snapshot *snapshot, uint64_t first, uint64_t last, clsm_row *rows,
+                       size_t room, clsm_page_end *end) {
+    return clsm_snapshot_page_of(snapshot, (struct clsm_span){first, last, false}, rows, room, end);
 }
 
 /* ---- Scans */
@@ -268,7 +306,8 @@ static int read_on(struct clsm_seat *seat, struct clsm_place *place) {
     clsm_core_paged answer;
     if (!place->more) return CLSM_DONE;
     if (place->count > 0) read_more(place);
-    read_part(seat, place->next, place->last, place->rows, place->most, &answer);
+    const struct clsm_span left = {.first = place->next, .last = place->last};
+    read_part(seat, &left, place->rows, place->most, &answer);
     place->at = 0;
     place->count = (size_t)answer.rows;
     place->next = answer.next;

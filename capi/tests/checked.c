@@ -14,6 +14,10 @@ static void call_again(void *with) {
     ANSWERS(CLSM_IN_USE, clsm_get(caller, 1, NULL));
     ANSWERS(CLSM_IN_USE, clsm_put(caller, 1, &WORD, 1));
     ANSWERS(CLSM_IN_USE, clsm_count(caller, 0, 1, &keys));
+    ANSWERS(CLSM_IN_USE, clsm_get_many(caller, NULL, 0, NULL));
+    ANSWERS(CLSM_IN_USE, clsm_batch_if(caller, NULL, 0, NULL, 0, NULL, 0, NULL));
+    ANSWERS(CLSM_IN_USE, clsm_page_down(caller, 1, 0, NULL, 0, NULL));
+    ANSWERS(CLSM_IN_USE, clsm_last(caller, 0, 1, NULL));
     ANSWERS(CLSM_IN_USE, clsm_snapshot_open(caller, &snapshot));
     ANSWERS(CLSM_IN_USE, clsm_follow(caller, 0));
     clsm_caller_close(caller);
@@ -41,6 +45,9 @@ int main(void) {
     clsm_snapshot_close((clsm_snapshot *)scan);
     clsm_snapshot_close(snapshot);
     ANSWERS(CLSM_CLOSED, clsm_snapshot_get(snapshot, 1, NULL));
+    ANSWERS(CLSM_CLOSED, clsm_snapshot_get_many(snapshot, NULL, 0, NULL));
+    ANSWERS(CLSM_CLOSED, clsm_snapshot_first(snapshot, 0, 1, &row));
+    ANSWERS(CLSM_CLOSED, clsm_snapshot_page_down(snapshot, 1, 0, &row, 1, NULL));
     clsm_snapshot_close(snapshot);
     clsm_caller_close(caller);
     ANSWERS(CLSM_CLOSED, clsm_get(caller, 1, NULL));

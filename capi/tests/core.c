@@ -11,6 +11,7 @@ static const clsm_core_key KEY = {7};
 static const clsm_core_row ROW = {7, {2, {70, 71}}};
 static const clsm_core_range ALL = {0, UINT64_MAX};
 static const clsm_core_used ONE = {1};
+static const clsm_core_range_count NOWHERE[1];
 
 #define CORE(code, call) CHECK((call) == CLSM_CORE_##code)
 
@@ -41,6 +42,14 @@ static void call_empty_caller(clsm_core_caller *caller) {
     clsm_core_changed changed;
     clsm_core_counted counted;
     clsm_core_paged paged;
+    clsm_core_unmet unmet;
+    clsm_core_value value = ROW.value;
+    const clsm_core_range_count none = {0, 1, 0};
+    CORE(NO_HANDLE, clsm_core_try_batch_if(caller, rows, 1, &none, 1, rows, 1, &unmet));
+    CORE(NO_HANDLE, clsm_core_get_many(caller, &KEY, 1, &value, 1, &time));
+    CORE(NO_HANDLE, clsm_core_get_many_at(caller, &KEY, 1, &value, 1, &time));
+    CORE(NO_HANDLE, clsm_core_page_down(caller, &ALL, rows, 2, &paged));
+    CHECK(memcmp(&value, &ROW.value, sizeof value) == 0);
     CORE(NO_HANDLE, clsm_core_try_put(caller, &ROW, &time));
     CORE(NO_HANDLE, clsm_core_try_remove(caller, &KEY, &time));
     CORE(NO_HANDLE, clsm_core_try_batch(caller, rows, 2, &time));
@@ -140,7 +149,12 @@ static void read_snapshot(clsm_core_caller *caller) {
     clsm_core_got got;
     CORE(NO_SNAPSHOT, clsm_core_get_at(caller, &KEY, &got));
     CORE(NO_SNAPSHOT, clsm_core_close_snapshot(caller, &time));
+    clsm_core_value value = ROW.value;
+    CORE(NO_SNAPSHOT, clsm_core_get_many_at(caller, &KEY, 1, &value, 1, &time));
+    CHECK(memcmp(&value, &ROW.value, sizeof value) == 0);
     CORE(OK, clsm_core_snapshot(caller, &time));
+    CORE(OK, clsm_core_get_many_at(caller, &KEY, 1, &value, 1, &again));
+    CHECK(again.time == time.time && value.length == 0 && value.words[0] == 0);
     CORE(OPEN, clsm_core_snapshot(caller, &again));
     CHECK(again.time == time.time);
     CORE(NOT_FOUND, clsm_core_get_at(caller, &KEY, &got));
@@ -178,6 +192,45 @@ static void refuse_batches(clsm_core_caller *caller) {
     CORE(NOT_FOUND, clsm_core_get(caller, &KEY, &got));
 }
 
+/* Conditions: the first one that does not hold, behind rows the ranges; and what is refused. */
+static void refuse_conditions(clsm_core_caller *caller) {
+    static clsm_core_row rows[9];
+    const clsm_core_row absent = {.key = 7};
+    const clsm_core_range_count none = {0, 9, 0}, one = {0, 9, 1};
+    clsm_core_unmet unmet = {0, 99};
+    clsm_core_got got;
+    for (uint64_t i = 0; i < 9; i++) rows[i] = ROW;
+    CORE(KEPT, clsm_core_try_batch_if(caller, &ROW, 1, &none, 1, rows, 2, &unmet));
+    CHECK(unmet.index == 0);
+    CORE(KEPT, clsm_core_try_batch_if(caller, &absent, 1, &one, 1, rows, 2, &unmet));
+    CHECK(unmet.index == 1);
+    CORE(OK, clsm_core_try_batch_if(caller, &absent, 1, &none, 1, rows, 0, &unmet));
+    CORE(BAD_BATCH, clsm_core_try_batch_if(caller, &absent, 1, &none, 1, rows, 9, &unmet));
+    rows[1].value.length = 9;
+    CORE(BAD_VALUE, clsm_core_try_batch_if(caller, &absent, 1, &none, 1, rows, 2, &unmet));
+    CORE(BAD_VALUE, clsm_core_try_batch_if(caller, &rows[1], 1, &none, 1, rows, 1, &unmet));
+    CORE(NOT_FOUND, clsm_core_get(caller, &KEY, &got));
+}
+
+/* As many keys are read as there are of both, and pages have their rows by falling key. */
+static void read_many(clsm_core_caller *caller) {
+    const clsm_core_key keys[] = {{8}, {7}, {7}};
+    clsm_core_value values[3] = {ROW.value, ROW.value, ROW.value};
+    clsm_core_row rows[2] = {ROW, ROW};
+    clsm_core_time time;
+    clsm_core_paged paged;
+    CORE(OK, clsm_core_get_many(caller, keys, 3, values, 2, &time));
+    CHECK(values[0].length == 0 && values[0].words[1] == 0);
+    CHECK(values[1].length == 2 && values[1].words[1] == 71 && values[1].words[2] == 0);
+    CHECK(memcmp(&values[2], &ROW.value, sizeof *values) == 0);
+    CORE(OK, clsm_core_get_many(caller, keys, 1, values, 3, &time));
+    CHECK(values[0].length == 0 && values[1].length == 2);
+    CORE(OK, clsm_core_page_down(caller, &ALL, rows, 2, &paged));
+    CHECK(paged.rows == 1 && !paged.more && rows[0].key == 7 && rows[0].value.words[1] == 71);
+    CORE(OK, clsm_core_page_down(caller, &ALL, rows, 0, &paged));
+    CHECK(paged.rows == 0 && paged.more && paged.next == 7);
+}
+
 static void answer_codes(void) {
     clsm_core_store store;
     clsm_core_caller caller;
@@ -189,17 +242,23 @@ static void answer_codes(void) {
     read_snapshot(&caller);
     refuse_values(&caller);
     refuse_batches(&caller);
+    refuse_conditions(&caller);
     CORE(IDLE, clsm_core_try_freeze(&merger, &ONE));
     expect_phase(&merger, false, false);
     const clsm_core_row rows[] = {ROW, {.key = 7}, ROW};
     clsm_core_time batch;
     for (int i = 0; i < 6; i++) CORE(OK, clsm_core_try_put(&caller, &ROW, &time));
+    read_many(&caller);
     CORE(FULL, clsm_core_try_batch(&caller, rows, 3, &batch));
     CHECK(batch.time == time.time + 1);
     CORE(OK, clsm_core_try_batch(&caller, rows, 2, &batch));
     CHECK(batch.time == time.time + 1);
     CORE(FULL, clsm_core_try_put(&caller, &ROW, &time));
     CHECK(time.time == batch.time + 2);
+    clsm_core_unmet unmet;
+    const clsm_core_row absent = {.key = 7};
+    CORE(FULL, clsm_core_try_batch_if(&caller, &absent, 1, NOWHERE, 0, &ROW, 1, &unmet));
+    CHECK(unmet.time == time.time);
     CORE(OK, clsm_core_try_freeze(&merger, &ONE));
     CORE(OK, clsm_core_try_freeze(&merger, &ONE));
     expect_phase(&merger, true, false);

@@ -134,6 +134,117 @@ void batches(clsm::caller &caller) {
     CHECK(!code && !caller.contains(21));
 }
 
+// What several keys have at one moment, and batches that are written if that still stands.
+void many(clsm::caller &caller) {
+    caller.put(30, 3);
+    caller.put(31, {4, 5});
+    const std::vector<std::optional<value>> found = caller.get_many({31, 30, 32});
+    CHECK(found.size() == 3 && found[0] == value({4, 5}) && found[1] == value(3) && !found[2]);
+    CHECK(caller.get_many({}).empty() && caller.time() == caller.seen());
+    clsm::conditions read;
+    read.still(31, found[0]).still(30, found[1]).still(32, found[2]).count(30, 39, 2);
+    std::size_t unmet = 9;
+    CHECK(read.size() == 4 && !read.empty() && caller.write_if(read, clsm::batch(), &unmet) && unmet == 9);
+    CHECK(caller.write_if(read, clsm::batch().put(33, 1).remove(30), &unmet) && unmet == 9);
+    CHECK(!caller.get(30) && caller.get(33) == value(1));
+    std::error_code code;
+    CHECK(!caller.write_if(read, clsm::batch().put(34, 1), code, &unmet) && unmet == 1 && !code);
+    CHECK(!caller.write_if(clsm::conditions().has(31, {4, 5}).count(30, 39, 3), clsm::batch(), &unmet) && unmet == 1);
+    CHECK(caller.write_if(clsm::conditions().has_none(30), clsm::batch().remove(33)) && !caller.contains(33));
+    CHECK(!caller.write_if(clsm::conditions().has_none(31), clsm::batch()));
+    const clsm::store small(clsm::options().with_epoch(4));
+    clsm::caller other = small.caller();
+    clsm::batch long_one;
+    for (std::uint64_t key = 0; key < 5; key++) long_one.put(key, 1);
+    CHECK(!other.write_if({}, long_one, code) && code.value() == CLSM_BAD_BATCH);
+    CHECK(thrown([&] { other.write_if({}, long_one); }) == CLSM_BAD_BATCH && other.count() == 0);
+    read.clear();
+    CHECK(read.empty() && caller.write_if(read, clsm::batch().remove(31)));
+}
+
+void transactions(const clsm::store &store) {
+    clsm::caller caller = store.caller(), other = store.caller();
+    caller.put(40, 10);
+    other.follow(caller.seen());
+    const auto left = caller.transact([](clsm::transaction &t) {
+        const std::uint64_t had = t.get(40)->front();
+        t.put(40, had - 3);
+        t.put(41, {1, 2});
+        t.remove(42);
+        CHECK(t.get(40) == value(7) && t.contains(41) && !t.contains(42));
+        CHECK(t.get_many({41, 42})[0] == value({1, 2}) && t.page(40, 49, 9).rows.size() == 2);
+        CHECK(t.page(40, 49, 1).next == 41 && !t.add(41, 1).is_written && t.add(43, 5).after == value(5));
+        return had;
+    });
+    CHECK(left == 10 && caller.get(40) == value(7) && caller.get(43) == value(5));
+    // It runs again where another one was faster, up to a bound; and one that throws writes nothing.
+    int runs = 0;
+    caller.transact([&](clsm::transaction &t) {
+        t.put(41, *t.get(40));
+        if (++runs < 3) other.add(40, 1);
+    });
+    CHECK(runs == 3 && caller.get(41) == value(9));
+    const auto disturbed = [&](clsm::transaction &t) {
+        t.put(41, *t.get(40));
+        other.add(40, 1);
+    };
+    CHECK(thrown([&] { caller.transact(disturbed, 5); }) == CLSM_CONFLICT);
+    CHECK(caller.get(40) == value(14) && caller.get(41) == value(9));
+    try {
+        caller.transact([](clsm::transaction &t) {
+            t.remove(40);
+            throw 7;
+        });
+    } catch (int) {
+        runs = 7;
+    }
+    CHECK(runs == 7 && caller.contains(40) && store.stats().snapshots == 0);
+    for (std::uint64_t key = 40; key < 44; key++) caller.remove(key);
+}
+
+void transacting_threads() {
+    const clsm::store store(clsm::options().with_epoch(64));
+    store.caller().put(2, 100);
+    std::vector<std::thread> threads;
+    for (int i = 0; i < 4; i++)
+        threads.emplace_back([&store] {
+            clsm::caller caller = store.caller();
+            for (int j = 0; j < 200; j++)
+                caller.transact(
+                    [](clsm::transaction &t) {
+                        const auto both = t.get_many({1, 2});
+                        const std::uint64_t one = both[0] ? both[0]->front() : 0, two = both[1]->front();
+                        CHECK(one + two == 100);
+                        t.put(1, two > 0 ? one + 1 : 0);
+                        t.put(2, two > 0 ? two - 1 : 100);
+                    },
+                    100000);
+        });
+    for (std::thread &thread : threads) thread.join();
+    CHECK(store.caller().get(1)->front() + store.caller().get(2)->front() == 100);
+}
+
+// Both ends of a range, and rows by falling key.
+void downwards(clsm::caller &caller) {
+    enum { ROWS = 700 };
+    for (std::uint64_t key = 0; key < ROWS; key++) caller.put(5000 + key, key);
+    const clsm::snapshot snapshot = caller.snapshot();
+    for (std::uint64_t key = 0; key < ROWS; key += 2) caller.remove(5000 + key);
+    CHECK(caller.first(5000, 6000) == (clsm::row{5001, 1}) && caller.last(0, 5698) == (clsm::row{5697, 697}));
+    CHECK(snapshot.first(5000) == (clsm::row{5000, 0}) && snapshot.last(5000) == (clsm::row{5699, 699}));
+    CHECK(!caller.first(7000) && !caller.last(5, 4) && !snapshot.first(7000) && !snapshot.last(5, 4));
+    CHECK(snapshot.get_many({5000, 5001, 6000}) == (std::vector<std::optional<value>>{value(0), value(1), nullopt}));
+    std::uint64_t next = ROWS;
+    auto rows = snapshot.range_down(6000, 5000);
+    for (const auto &[key, value] : rows) CHECK(key == 5000 + --next && value == next);
+    CHECK(next == 0);
+    clsm::page page = snapshot.page_down(UINT64_MAX, 5000, 600);
+    CHECK(page.rows.size() == 600 && page.rows[0].key == 5699 && page.next == 5099);
+    page = caller.page_down(*page.next, 5000, SIZE_MAX);
+    CHECK(page.rows.size() == 50 && page.rows[0].key == 5099 && page.rows[49].key == 5001 && !page.next);
+    for (std::uint64_t key = 0; key < ROWS; key++) caller.remove(5000 + key);
+}
+
 // All rows are there, in order, by each of the ways.
 void ranges(clsm::caller &caller) {
     enum { ROWS = 700 };
@@ -221,10 +332,14 @@ int main() {
         keys(caller);
         changes(caller);
         batches(caller);
+        many(caller);
+        downwards(caller);
+        transactions(store);
         ranges(caller);
     }
     lives();
     refusals();
     threads();
+    transacting_threads();
     std::puts("ok cxx17");
 }

@@ -121,6 +121,57 @@ static void read_long_pages(clsm_caller *caller, uint64_t keys) {
         CHECK(rows[key].key == key && rows[key].value.words[0] == key);
 }
 
+/* Writes some keys that it has read, and goes on where memory runs out; what its end refuses it has
+ * forgotten. */
+static void transact(clsm_caller *caller, uint64_t first) {
+    enum { ROWS = 12 };
+    static clsm_row rows[ROWS];
+    clsm_transaction *transaction = NULL;
+    clsm_page_end end;
+    int code;
+    AGAIN(CLSM_OK, clsm_transaction_open(caller, &transaction));
+    do {
+        for (uint64_t i = 0; i < ROWS; i++)
+            AGAIN(CLSM_NOT_FOUND, clsm_transaction_get(transaction, first + i, NULL));
+        for (uint64_t i = 0; i < ROWS; i++)
+            AGAIN(CLSM_OK, clsm_transaction_put(transaction, first + i, &i, 1));
+        for (uint64_t i = 0; i < ROWS; i++)
+            AGAIN(CLSM_OK, clsm_transaction_page(transaction, first, first + i, rows, ROWS, &end));
+        CHECK(end.rows == ROWS && rows[ROWS - 1].value.words[0] == ROWS - 1);
+        AGAIN(CLSM_OK, clsm_transaction_page(transaction, 0, 99, rows, ROWS, &end));
+        CHECK(end.rows == ROWS && end.more && rows[5].key == 5);
+        code = clsm_transaction_commit(transaction);
+    } while (is_again(code));
+    ANSWERS(CLSM_OK, code);
+    for (uint64_t i = 0; i < ROWS; i++)
+        AGAIN(CLSM_OK, clsm_transaction_remove(transaction, first + i));
+    if (is_again(code = clsm_transaction_commit(transaction))) code = CLSM_OK;
+    ANSWERS(CLSM_OK, code);
+    for (uint64_t i = 0; i < ROWS; i++) OK(clsm_remove(caller, first + i));
+    clsm_transaction_close(transaction);
+}
+
+/* Reads of many keys, and downwards, take none. */
+static void read_many(clsm_caller *caller, uint64_t count) {
+    static uint64_t keys[600];
+    static clsm_value values[600];
+    static clsm_row rows[600];
+    clsm_page_end end;
+    clsm_snapshot *snapshot;
+    for (uint64_t i = 0; i < count; i++) keys[i] = i;
+    const long before = atomic_load(&requests);
+    OK(clsm_get_many(caller, keys, count, values));
+    for (uint64_t i = 0; i < count; i++) CHECK(values[i].words[0] == i);
+    OK(clsm_page_down(caller, UINT64_MAX, 0, rows, count, &end));
+    CHECK(end.rows == count && !end.more && rows[0].key == count - 1);
+    OK(clsm_snapshot_open(caller, &snapshot));
+    OK(clsm_snapshot_get_many(snapshot, keys, count, values));
+    OK(clsm_snapshot_last(snapshot, 0, UINT64_MAX, rows));
+    CHECK(rows[0].key == count - 1);
+    clsm_snapshot_close(snapshot);
+    CHECK(atomic_load(&requests) == before);
+}
+
 /* A scan that is refused memory for more rows at a time does without. */
 static void read_scan(clsm_caller *caller, uint64_t keys) {
     const long refused = atomic_load(&refused_one);
@@ -159,6 +210,26 @@ static void write_batches(clsm_caller *caller, uint64_t first) {
     AGAIN(CLSM_OK, clsm_batch(caller, rows, ROWS));
 }
 
+/* The same with conditions, which are that none has a value, and that all have. */
+static void write_batches_if(clsm_caller *caller, uint64_t first) {
+    enum { ROWS = 12 };
+    const clsm_range_count none = {first, first + ROWS, 0}, all = {first, first + ROWS, ROWS};
+    clsm_row rows[ROWS], absent[ROWS];
+    size_t unmet = 77;
+    for (uint64_t i = 0; i < ROWS; i++) absent[i] = (clsm_row){.key = first + i};
+    for (uint64_t i = 0; i < ROWS; i++) rows[i] = (clsm_row){first + i, {1, {i}}};
+    int code = clsm_batch_if(caller, absent, ROWS, &none, 1, rows, ROWS, &unmet);
+    if (is_again(code)) {
+        CHECK(counted(caller, first) == 0);
+        code = clsm_batch_if(caller, absent, ROWS, &none, 1, rows, ROWS, &unmet);
+    }
+    ANSWERS(CLSM_OK, code);
+    CHECK(counted(caller, first) == ROWS && unmet == 77);
+    AGAIN(CLSM_OK, clsm_batch_if(caller, rows, ROWS, &all, 1, NULL, 0, NULL));
+    AGAIN(CLSM_KEPT, clsm_batch_if(caller, absent, ROWS, &all, 1, rows, ROWS, NULL));
+    AGAIN(CLSM_OK, clsm_batch_if(caller, rows, ROWS, &all, 1, absent, ROWS, NULL));
+}
+
 static void use_all_calls(int merge) {
     enum { KEYS = 600 };
     clsm_store *store = opened(&(clsm_options){.keys = 640, .epoch = 16, .merge = merge});
@@ -167,10 +238,13 @@ static void use_all_calls(int merge) {
     for (uint64_t key = 0; key < KEYS; key++) OK(clsm_put(caller, key, &key, 1));
     OK(clsm_get(caller, 5, NULL));
     write_batches(caller, KEYS);
+    write_batches_if(caller, KEYS);
+    transact(caller, KEYS);
     int code = clsm_sweep(store);
     CHECK(code == CLSM_OK || code == CLSM_IDLE);
     read_pages(caller, KEYS);
     read_long_pages(caller, KEYS);
+    read_many(caller, KEYS);
     read_scan(caller, KEYS);
     read_scan(caller, KEYS);
     clsm_caller_close(caller);

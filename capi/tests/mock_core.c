@@ -310,12 +310,10 @@ static uint32_t refusal_of_rows(size_t cells, const clsm_core_row *rows, size_t 
     return CLSM_CORE_OK;
 }
 
+/* Writes all rows, if the epoch has room for them: OK, FULL. */
 static uint32_t write_all(struct store *store, const clsm_core_row *rows, size_t count,
-                          clsm_core_time *answer) {
-    uint32_t code = refusal_of_rows(store->sizes.cells, rows, count);
-    if (code == CLSM_CORE_OK) code = planned(MOCK_BATCH);
-    if (code != CLSM_CORE_OK) return code;
-    answer->time = store->clock;
+                          uint64_t *time) {
+    *time = store->clock;
     if (count > limit(store) - store->clock) return CLSM_CORE_FULL;
     for (size_t i = 0; i < count; i++) {
         clsm_core_value value = {.length = rows[i].value.length};
@@ -325,6 +323,13 @@ static uint32_t write_all(struct store *store, const clsm_core_row *rows, size_t
     return CLSM_CORE_OK;
 }
 
+static uint32_t write_batch(struct store *store, const clsm_core_row *rows, size_t count,
+                            clsm_core_time *answer) {
+    uint32_t code = refusal_of_rows(store->sizes.cells, rows, count);
+    if (code == CLSM_CORE_OK) code = planned(MOCK_BATCH);
+    return code == CLSM_CORE_OK ? write_all(store, rows, count, &answer->time) : code;
+}
+
 uint32_t clsm_core_try_batch(clsm_core_caller *at, const clsm_core_row *rows, size_t count,
                              clsm_core_time *answer) {
     struct store *store = store_of(at);
@@ -332,18 +337,92 @@ uint32_t clsm_core_try_batch(clsm_core_caller *at, const clsm_core_row *rows, si
     void *members = allocate(count * sizeof *rows);
     if (!members && count > 0) return CLSM_CORE_MEMORY;
     pthread_mutex_lock(&lock);
-    uint32_t code = write_all(store, rows, count, answer);
+    uint32_t code = write_batch(store, rows, count, answer);
+    pthread_mutex_unlock(&lock);
+    free(members);
+    return code;
+}
+
+/* ---- Batches with conditions */
+
+static bool is_same(const clsm_core_value *one, const clsm_core_value *other) {
+    return one->length == other->length
+           && memcmp(one->words, other->words, one->length * sizeof one->words[0]) == 0;
+}
+
+static clsm_core_value value_at(const struct store *store, uint64_t key, uint64_t time) {
+    size_t at = place_of(store, key);
+    const clsm_core_value *value = NULL;
+    if (at < store->count && store->entries[at].key == key)
+        value = value_below(&store->entries[at], time);
+    return value ? *value : (clsm_core_value){.length = 0};
+}
+
+static uint64_t count_below(const struct store *store, uint64_t first, uint64_t last,
+                            uint64_t time) {
+    uint64_t keys = 0;
+    for (size_t i = place_of(store, first); i < store->count && store->entries[i].key <= last; i++)
+        if (value_below(&store->entries[i], time)) keys++;
+    return keys;
+}
+
+struct conditions {
+    const clsm_core_row *expected;
+    size_t expected_count;
+    const clsm_core_range_count *counts;
+    size_t counts_count;
+};
+
+/* The place of the first condition that does not hold, or how many there are. */
+static size_t first_unmet(const struct store *store, const struct conditions *of) {
+    for (size_t i = 0; i < of->expected_count; i++) {
+        const clsm_core_value value = value_at(store, of->expected[i].key, store->clock);
+        if (!is_same(&value, &of->expected[i].value)) return i;
+    }
+    for (size_t i = 0; i < of->counts_count; i++) {
+        const clsm_core_range_count *range = &of->counts[i];
+        if (count_below(store, range->first, range->last, store->clock) != range->keys)
+            return of->expected_count + i;
+    }
+    return of->expected_count + of->counts_count;
+}
+
+static uint32_t refusal_of_conditions(const struct conditions *of) {
+    for (size_t i = 0; i < of->expected_count; i++)
+        if (of->expected[i].value.length > 8) return CLSM_CORE_BAD_VALUE;
+    return CLSM_CORE_OK;
+}
+
+static uint32_t write_if(struct store *store, const struct conditions *conditions,
+                         const clsm_core_row *rows, size_t count, clsm_core_unmet *answer) {
+    const size_t all = conditions->expected_count + conditions->counts_count;
+    uint32_t code = refusal_of_conditions(conditions);
+    if (code == CLSM_CORE_OK && count > 0) code = refusal_of_rows(store->sizes.cells, rows, count);
+    if (code == CLSM_CORE_OK) code = planned(MOCK_BATCH);
+    if (code != CLSM_CORE_OK) return code;
+    answer->index = first_unmet(store, conditions);
+    if (answer->index == all && count > 0) return write_all(store, rows, count, &answer->time);
+    answer->time = read_time(store, MOCK_READ);
+    return answer->index < all ? CLSM_CORE_KEPT : CLSM_CORE_OK;
+}
+
+uint32_t clsm_core_try_batch_if(clsm_core_caller *at, const clsm_core_row *expected,
+                                size_t expected_count, const clsm_core_range_count *counts,
+                                size_t counts_count, const clsm_core_row *rows, size_t count,
+                                clsm_core_unmet *answer) {
+    const struct conditions conditions = {expected, expected_count, counts, counts_count};
+    struct store *store = store_of(at);
+    if (!store) return CLSM_CORE_NO_HANDLE;
+    void *members = allocate((expected_count + count) * sizeof *rows);
+    if (!members && expected_count + count > 0) return CLSM_CORE_MEMORY;
+    pthread_mutex_lock(&lock);
+    uint32_t code = write_if(store, &conditions, rows, count, answer);
     pthread_mutex_unlock(&lock);
     free(members);
     return code;
 }
 
 /* ---- Changes */
-
-static bool is_same(const clsm_core_value *one, const clsm_core_value *other) {
-    return one->length == other->length
-           && memcmp(one->words, other->words, one->length * sizeof one->words[0]) == 0;
-}
 
 /* Writes the desired value if it is told to; else that is a read. */
 static uint32_t change_at(struct store *store, uint64_t key, bool writes,
@@ -360,20 +439,12 @@ static uint32_t change_at(struct store *store, uint64_t key, bool writes,
     return code;
 }
 
-static clsm_core_value value_now(const struct store *store, uint64_t key) {
-    size_t at = place_of(store, key);
-    const clsm_core_value *value = NULL;
-    if (at < store->count && store->entries[at].key == key)
-        value = value_below(&store->entries[at], store->clock);
-    return value ? *value : (clsm_core_value){.length = 0};
-}
-
 uint32_t clsm_core_try_add(clsm_core_caller *at, const clsm_core_adding *ask,
                            clsm_core_changed *answer) {
     struct store *store = store_of(at);
     if (!store) return CLSM_CORE_NO_HANDLE;
     pthread_mutex_lock(&lock);
-    answer->before = value_now(store, ask->key);
+    answer->before = value_at(store, ask->key, store->clock);
     const uint64_t old = answer->before.words[0];
     const bool fits =
         answer->before.length == 0 || (answer->before.length == 1 && old <= UINT64_MAX - ask->by);
@@ -389,7 +460,7 @@ uint32_t clsm_core_try_replace(clsm_core_caller *at, const clsm_core_replacing *
     if (!store) return CLSM_CORE_NO_HANDLE;
     if (ask->expected.length > 8 || ask->desired.length > 8) return CLSM_CORE_BAD_VALUE;
     pthread_mutex_lock(&lock);
-    answer->before = value_now(store, ask->key);
+    answer->before = value_at(store, ask->key, store->clock);
     clsm_core_value desired = {.length = ask->desired.length};
     memcpy(desired.words, ask->desired.words, desired.length * sizeof desired.words[0]);
     uint32_t code =
@@ -402,14 +473,10 @@ uint32_t clsm_core_try_replace(clsm_core_caller *at, const clsm_core_replacing *
 
 static uint32_t read_below(const struct store *store, uint64_t key, uint64_t time,
                            clsm_core_got *answer) {
-    size_t at = place_of(store, key);
-    const clsm_core_value *value = NULL;
-    if (at < store->count && store->entries[at].key == key)
-        value = value_below(&store->entries[at], time);
     memset(answer, 0, sizeof *answer);
     answer->time = time;
-    if (value) answer->value = *value;
-    return value ? CLSM_CORE_OK : CLSM_CORE_NOT_FOUND;
+    answer->value = value_at(store, key, time);
+    return answer->value.length > 0 ? CLSM_CORE_OK : CLSM_CORE_NOT_FOUND;
 }
 
 uint32_t clsm_core_get(clsm_core_caller *at, const clsm_core_key *ask, clsm_core_got *answer) {
@@ -431,6 +498,37 @@ uint32_t clsm_core_get_at(clsm_core_caller *at, const clsm_core_key *ask, clsm_c
     if (noted != NONE) code = read_below(seat.store, ask->key, noted - 1, answer);
     pthread_mutex_unlock(&lock);
     return code;
+}
+
+static void read_all(const struct store *store, const clsm_core_key *keys, size_t count,
+                     clsm_core_value *values, uint64_t time) {
+    for (size_t i = 0; i < count; i++) values[i] = value_at(store, keys[i].key, time);
+}
+
+uint32_t clsm_core_get_many(clsm_core_caller *at, const clsm_core_key *keys, size_t count,
+                            clsm_core_value *values, size_t room, clsm_core_time *answer) {
+    struct store *store = store_of(at);
+    if (!store) return CLSM_CORE_NO_HANDLE;
+    interrupt(MOCK_READ);
+    pthread_mutex_lock(&lock);
+    answer->time = read_time(store, MOCK_READ);
+    read_all(store, keys, count < room ? count : room, values, answer->time);
+    pthread_mutex_unlock(&lock);
+    return CLSM_CORE_OK;
+}
+
+uint32_t clsm_core_get_many_at(clsm_core_caller *at, const clsm_core_key *keys, size_t count,
+                               clsm_core_value *values, size_t room, clsm_core_time *answer) {
+    struct seat seat = seat_of(at);
+    if (!seat.store) return CLSM_CORE_NO_HANDLE;
+    pthread_mutex_lock(&lock);
+    const uint64_t noted = seat.store->snapshots[seat.number];
+    if (noted != NONE) {
+        answer->time = noted - 1;
+        read_all(seat.store, keys, count < room ? count : room, values, answer->time);
+    }
+    pthread_mutex_unlock(&lock);
+    return noted != NONE ? CLSM_CORE_OK : CLSM_CORE_NO_SNAPSHOT;
 }
 
 uint32_t clsm_core_snapshot(clsm_core_caller *at, clsm_core_time *answer) {
@@ -470,10 +568,7 @@ uint32_t clsm_core_count(clsm_core_caller *at, const clsm_core_range *ask,
     if (!store) return CLSM_CORE_NO_HANDLE;
     pthread_mutex_lock(&lock);
     answer->time = range_time(seat);
-    answer->keys = 0;
-    for (size_t i = place_of(store, ask->first);
-         i < store->count && store->entries[i].key <= ask->last; i++)
-        if (value_below(&store->entries[i], answer->time)) answer->keys++;
+    answer->keys = count_below(store, ask->first, ask->last, answer->time);
     pthread_mutex_unlock(&lock);
     return CLSM_CORE_OK;
 }
@@ -499,6 +594,33 @@ uint32_t clsm_core_page(clsm_core_caller *at, const clsm_core_range *ask, clsm_c
     if (!seat.store) return CLSM_CORE_NO_HANDLE;
     pthread_mutex_lock(&lock);
     fill(seat, ask, rows, count, answer);
+    pthread_mutex_unlock(&lock);
+    return CLSM_CORE_OK;
+}
+
+/* The same from the end of the range on. */
+static void fill_down(struct seat seat, const clsm_core_range *ask, clsm_core_row *rows,
+                      size_t count, clsm_core_paged *answer) {
+    struct store *store = seat.store;
+    size_t at = place_of(store, ask->last);
+    *answer = (clsm_core_paged){.time = range_time(seat)};
+    if (at < store->count && store->entries[at].key == ask->last) at++;
+    while (at-- > 0 && store->entries[at].key >= ask->first) {
+        const clsm_core_value *value = value_below(&store->entries[at], answer->time);
+        if (!value) continue;
+        answer->more = answer->rows == count;
+        answer->next = answer->more ? store->entries[at].key : 0;
+        if (answer->more) return;
+        rows[answer->rows++] = (clsm_core_row){store->entries[at].key, *value};
+    }
+}
+
+uint32_t clsm_core_page_down(clsm_core_caller *at, const clsm_core_range *ask, clsm_core_row *rows,
+                             size_t count, clsm_core_paged *answer) {
+    struct seat seat = seat_of(at);
+    if (!seat.store) return CLSM_CORE_NO_HANDLE;
+    pthread_mutex_lock(&lock);
+    fill_down(seat, ask, rows, count, answer);
     pthread_mutex_unlock(&lock);
     return CLSM_CORE_OK;
 }

@@ -32,7 +32,8 @@ static void name_codes(void) {
                                 CLSM_BAD_EPOCH, CLSM_BAD_PATIENCE,  CLSM_BAD_VALUE,
                                 CLSM_BAD_BATCH, CLSM_BAD_POINTER,   CLSM_BAD_BUILD,
                                 CLSM_BAD_MERGE, CLSM_EMPTY_BATCH,   CLSM_BAD_VERSIONS,
-                                CLSM_BAD_WAIT,  CLSM_VERSIONS_FULL, CLSM_OWN_SNAPSHOT};
+                                CLSM_BAD_WAIT,  CLSM_VERSIONS_FULL, CLSM_OWN_SNAPSHOT,
+                                CLSM_CONFLICT};
     const size_t count = sizeof codes / sizeof *codes;
     for (size_t i = 0; i < count; i++) {
         CHECK(strcmp(clsm_strerror(codes[i]), "unknown code") != 0);

@@ -32,6 +32,9 @@ static clsm_snapshot *snapshot;
 static clsm_scan *scan;
 static clsm_row rows[64];
 static clsm_page_end end;
+enum { MANY = 600 };
+static uint64_t many[MANY];
+static clsm_value values[MANY];
 static uint64_t keys;
 static const uint64_t WORDS[8] = {1, 2, 3, 4, 5, 6, 7, 8};
 static const clsm_options OPTIONS = {.keys = 10000, .epoch = 16, .merge = CLSM_MERGE_IN_CALLS};
@@ -52,13 +55,33 @@ static void batch(void) {
     for (uint64_t i = 0; i < 16; i++) rows[i] = (clsm_row){i, {1, {i}}};
     OK(clsm_batch(caller, rows, 16));
 }
+static void batch_if(void) {
+    const clsm_range_count range = {0, UINT64_MAX, 0};
+    OK(clsm_batch_if(caller, rows, 16, NULL, 0, rows, 16, NULL));
+    ANSWERS(CLSM_KEPT, clsm_batch_if(caller, rows, 16, &range, 1, rows, 16, NULL));
+}
 static void get(void) { OK(clsm_get(caller, 500, NULL)); }
 static void count(void) { OK(clsm_count(caller, 0, UINT64_MAX, &keys)); }
 static void page(void) { OK(clsm_page(caller, 0, UINT64_MAX, rows, 64, &end)); }
+static void get_many(void) { OK(clsm_get_many(caller, many, MANY, values)); }
+static void get_some(void) { OK(clsm_get_many(caller, many, 16, values)); }
+static void page_down(void) { OK(clsm_page_down(caller, UINT64_MAX, 0, rows, 64, &end)); }
+static void last(void) { OK(clsm_last(caller, 0, UINT64_MAX, rows)); }
 static void open_snapshot(void) { OK(clsm_snapshot_open(caller, &snapshot)); }
 static void close_snapshot(void) { clsm_snapshot_close(snapshot); }
 static void get_at(void) { OK(clsm_snapshot_get(snapshot, 500, NULL)); }
+static void get_many_at(void) { OK(clsm_snapshot_get_many(snapshot, many, MANY, values)); }
+static void down_at(void) { OK(clsm_snapshot_page_down(snapshot, 900, 0, rows, 64, &end)); }
 static void page_at(void) { OK(clsm_snapshot_page(snapshot, 0, UINT64_MAX, rows, 64, &end)); }
+static void transact(void) {
+    clsm_transaction *transaction;
+    OK(clsm_transaction_open(caller, &transaction));
+    OK(clsm_transaction_get_many(transaction, many, MANY, values));
+    OK(clsm_transaction_page(transaction, 0, UINT64_MAX, rows, 64, &end));
+    for (uint64_t key = 0; key < 16; key++) OK(clsm_transaction_put(transaction, key, WORDS, 8));
+    OK(clsm_transaction_commit(transaction));
+    clsm_transaction_close(transaction);
+}
 static void open_scan(void) { OK(clsm_scan_open(caller, 0, UINT64_MAX, &scan)); }
 static void next(void) { OK(clsm_scan_next(scan, rows)); }
 static void close_scan(void) { clsm_scan_close(scan); }
@@ -101,14 +124,22 @@ int main(int count_of_words, char **words) {
                  {"clsm_sweep", sweep},
                  {"clsm_put", put_one},
                  {"clsm_batch", batch},
+                 {"clsm_batch_if", batch_if},
                  {"clsm_get", get},
+                 {"clsm_get_many, in parts", get_many},
+                 {"clsm_get_many", get_some},
                  {"clsm_count", count},
                  {"clsm_page", page},
+                 {"clsm_page_down", page_down},
+                 {"clsm_last", last},
                  {"clsm_follow", follow},
                  {"clsm_snapshot_open", open_snapshot},
                  {"clsm_snapshot_get", get_at},
+                 {"clsm_snapshot_get_many", get_many_at},
                  {"clsm_snapshot_page", page_at},
+                 {"clsm_snapshot_page_down", down_at},
                  {"clsm_snapshot_close", close_snapshot},
+                 {"clsm_transaction_commit", transact},
                  {"clsm_scan_open", open_scan},
                  {"clsm_scan_next", next},
                  {"clsm_scan_close", close_scan},

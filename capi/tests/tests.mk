@@ -11,9 +11,9 @@ SHARED_HEADERS = clsm.h tests/check.h tests/between.h tests/mock_core.h tests/re
 $(T): $(OUT)/settings
 	mkdir -p $@
 
-# ---- Programs: over the library; `mocked`, `checked` and `schedules` over the parts and the mock core.
+# ---- Programs: over the library; `mocked`, `mocked_many`, `checked` and `schedules` over the parts and the mock core.
 
-$(T)/threads $(T)/refusals $(T)/changes $(T)/batch $(T)/full $(T)/loops $(T)/lives $(T)/audited: $(T)/%: tests/%.c $(SHARED_HEADERS) $(T)/between.o $(OUT)/libclsm.a
+$(T)/threads $(T)/refusals $(T)/changes $(T)/batch $(T)/many $(T)/transactions $(T)/full $(T)/loops $(T)/lives $(T)/audited: $(T)/%: tests/%.c $(SHARED_HEADERS) $(T)/between.o $(OUT)/libclsm.a
 	$(STRICT) -o $@ $< $(T)/between.o $(OUT)/libclsm.a $(BETWEEN)
 
 $(T)/memory: $(T)/%: tests/%.c $(SHARED_HEADERS) $(OUT)/libclsm.a | $(T)
@@ -43,7 +43,7 @@ $(T)/cxx: tests/cxx.cpp clsm.h $(OUT)/libclsm.a | $(T)
 $(T)/cxx17: tests/cxx17.cpp clsm.h clsm.hpp clsm_codec.h $(OUT)/libclsm.a | $(T)
 	$(CXX17) -Werror -o $@ $< $(OUT)/libclsm.a
 
-$(T)/mocked: tests/mocked.c $(SHARED_HEADERS) $(T)/between.o $(T)/mock_core.o $(OBJECTS)
+$(T)/mocked $(T)/mocked_many: $(T)/%: tests/%.c $(SHARED_HEADERS) $(T)/between.o $(T)/mock_core.o $(OBJECTS)
 	$(STRICT) -o $@ $< $(T)/between.o $(T)/mock_core.o $(OBJECTS) $(BETWEEN)
 
 $(T)/checked: tests/checked.c $(SHARED_HEADERS) $(T)/mock_core.o $(PARTS:%=src/%.c) $(HEADERS)
@@ -53,7 +53,7 @@ $(T)/checked: tests/checked.c $(SHARED_HEADERS) $(T)/mock_core.o $(PARTS:%=src/%
 SCHEDULED = $(PARTS:%=$(T)/scheduled/%.o)
 SCHEDULED_HEADERS = $(HEADERS) $(wildcard tests/schedules/*.h) tests/mock_core.h
 SCHEDULES = $(wildcard tests/schedules/*.c)
-COUNTED = $(call wrap,malloc calloc free)
+COUNTED = $(call wrap,malloc calloc realloc free)
 
 $(SCHEDULED): $(T)/scheduled/%.o: src/%.c $(SCHEDULED_HEADERS) | $(T)
 	@mkdir -p $(@D)
@@ -122,11 +122,11 @@ ROUNDS = $(if $(SANITIZE),2000,20000)
 EXAMPLES = $(patsubst examples/%.c,%,$(wildcard examples/*.c))
 # ThreadSanitizer has nothing to find where one thread runs.
 ALONE = $(if $(filter thread,$(SANITIZE)),,schedules)
-PROGRAMS = threads codecs refusals memory lives stack changes batch full loops cxx cxx17 core mocked checked $(ALONE) \
+PROGRAMS = threads codecs refusals memory lives stack changes batch many transactions full loops cxx cxx17 core mocked mocked_many checked $(ALONE) \
     $(EXAMPLES:%=example-%) $(EXAMPLES:%=example-cxx-%) \
     $(if $(SANITIZE),,shared) $(if $(filter address,$(SANITIZE)),closed) $(if $(AUDIT),audited)
 BUILT = $(PROGRAMS:%=$(T)/%)
-PLAIN = refusals memory lives stack changes batch full loops cxx cxx17 core mocked checked $(if $(filter address,$(SANITIZE)),closed)
+PLAIN = refusals memory lives stack changes batch many transactions full loops cxx cxx17 core mocked mocked_many checked $(if $(filter address,$(SANITIZE)),closed)
 AGAIN = $(MAKE) OUT=$(OUT) CORE=$(CORE)
 # What is not for sanitizers; what the documents show is not in an archive that was packed.
 PLANTING = "tests/planted $(OUT)/planted"

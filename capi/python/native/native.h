@@ -1,8 +1,8 @@
 /* The C extension of the Python package: what its parts share.
  *
- * All of it runs under the interpreter's lock, which no call here gives up, except where it says so.
- * So fields of objects need no other lock, and no handler of a signal, which Python runs between two
- * of its own steps, comes between the steps of a call. */
+ * All of it runs under the interpreter's lock, which no call here gives up, except where it says
+ * so. So fields of objects need no other lock, and no handler of a signal, which Python runs
+ * between two of its own steps, comes between the steps of a call. */
 #ifndef CLSM_NATIVE_H
 #define CLSM_NATIVE_H
 
@@ -102,6 +102,27 @@ void clsm_end_call(struct store *store);
 /* Opens a snapshot of the store: OK, or -1 once it has raised an exception. */
 int clsm_open_snapshot(struct store *store, struct snapshot *snapshot);
 
+/* What a call is given, and where its answers go. */
+struct call {
+    int (*make)(clsm_caller *caller, struct call *call);
+    uint64_t key, last;
+    clsm_value value, expected;
+    clsm_changed changed;
+    const clsm_row *rows, *expected_rows;
+    const clsm_range_count *counts;
+    size_t count, expected_count, counts_count, unmet;
+    const uint64_t *many; /* keys, and a value of each */
+    clsm_value *values;
+    uint64_t keys;
+};
+
+/* Makes a call by a caller of this range. It follows what was seen, and is followed, so nothing
+ * that a thread saw runs back. The code, or -1 once it has raised an exception. */
+int clsm_make_call(struct store *store, int first, int last, struct call *call);
+/* Makes a call that writes. While it waits for a snapshot to be closed, it comes back now and then,
+ * for handlers of signals and for other writers. */
+int clsm_make_write(struct store *store, struct call *call);
+
 extern PyType_Spec clsm_store_spec;
 
 /* ---- snapshot.c */
@@ -122,11 +143,26 @@ struct snapshot {
 void clsm_close_snapshot(struct snapshot *snapshot);
 /* Waits until no call is running on it: false once it has raised an exception. */
 bool clsm_await_calls(struct snapshot *snapshot);
+/* Waits until a call may be made on it: false once it has raised an exception. */
+bool clsm_enter_snapshot(struct snapshot *snapshot);
+/* Notes that a call begins, or has ended, which gives up the interpreter's lock. */
+void clsm_begin_on(struct snapshot *snapshot);
+void clsm_end_on(struct snapshot *snapshot);
 /* Reads a page without the interpreter's lock: the code, or -1 once it has raised an exception. */
-int clsm_read_snapshot(struct snapshot *snapshot, uint64_t first, uint64_t last, clsm_row *rows,
-                       size_t room, clsm_page_end *end);
+typedef int clsm_snapshot_paging(clsm_snapshot *snapshot, uint64_t from, uint64_t to,
+                                 clsm_row *rows, size_t room, clsm_page_end *end);
+int clsm_read_snapshot(struct snapshot *snapshot, clsm_snapshot_paging *page, uint64_t from,
+                       uint64_t to, clsm_row *rows, size_t room, clsm_page_end *end);
 
 extern PyType_Spec clsm_snapshot_spec;
+
+/* ---- many.c: methods of stores and of snapshots */
+
+PyObject *clsm_get_many_of(struct store *self, PyObject *keys);
+PyObject *clsm_get_many_at(struct snapshot *self, PyObject *keys);
+PyObject *clsm_end_of(struct store *self, PyObject *const *arguments, Py_ssize_t count);
+PyObject *clsm_end_at(struct snapshot *self, PyObject *const *arguments, Py_ssize_t count);
+PyObject *clsm_write_if(struct store *self, PyObject *const *arguments, Py_ssize_t count);
 
 /* ---- rows.c */
 

@@ -6,8 +6,8 @@ struct rows {
     PyObject *reader; /* a snapshot or a store; null at the end */
     clsm_row *page;
     size_t count, at;    /* rows of the page, and the next one of them */
-    uint64_t next, last; /* the range behind the page */
-    bool more;
+    uint64_t next, last; /* the range behind the page, downwards if it falls */
+    bool more, falls;
     bool is_own; /* the snapshot is closed with it */
     size_t room, greatest_room;
     unsigned long long pages; /* that were read */
@@ -20,14 +20,17 @@ static bool is_snapshot(PyObject *reader) { return PyObject_TypeCheck(reader, cl
 static int read_store(struct store *store, const struct rows *self, clsm_row *page, size_t room,
                       clsm_page_end *end) {
     if (!clsm_is_usable(store)) return CLSM_BAD_POINTER;
-    return clsm_page(store->shared, self->next, self->last, page, room, end);
+    return self->falls ? clsm_page_down(store->shared, self->next, self->last, page, room, end)
+                       : clsm_page(store->shared, self->next, self->last, page, room, end);
 }
 
 /* Reads the next page: the code, or -1 once it has raised an exception. */
 static int read_page(const struct rows *self, PyObject *reader, clsm_row *page, size_t room,
                      clsm_page_end *end) {
     if (!is_snapshot(reader)) return read_store((struct store *)reader, self, page, room, end);
-    return clsm_read_snapshot((struct snapshot *)reader, self->next, self->last, page, room, end);
+    return clsm_read_snapshot((struct snapshot *)reader,
+                              self->falls ? clsm_snapshot_page_down : clsm_snapshot_page,
+                              self->next, self->last, page, room, end);
 }
 
 static void refuse(PyObject *reader, int code) {
@@ -108,10 +111,10 @@ static PyObject *open_rows(PyTypeObject *type, PyObject *arguments, PyObject *na
     PyObject *reader;
     unsigned long long first, last;
     Py_ssize_t room, greatest_room;
-    int is_own;
+    int is_own, falls = 0;
     (void)names;
-    if (!PyArg_ParseTuple(arguments, "OKKnnp", &reader, &first, &last, &room, &greatest_room,
-                          &is_own))
+    if (!PyArg_ParseTuple(arguments, "OKKnnp|p", &reader, &first, &last, &room, &greatest_room,
+                          &is_own, &falls))
         return NULL;
     if (room < 1 || greatest_room < room) {
         PyErr_SetString(PyExc_ValueError, "a page has room for a row");
@@ -127,8 +130,9 @@ static PyObject *open_rows(PyTypeObject *type, PyObject *arguments, PyObject *na
     struct rows *self = (struct rows *)object;
     Py_INCREF(reader);
     self->reader = reader;
-    self->next = first;
-    self->last = last;
+    self->next = falls ? last : first;
+    self->last = falls ? first : last;
+    self->falls = falls != 0;
     self->more = true;
     self->is_own = is_own != 0;
     self->room = (size_t)room;

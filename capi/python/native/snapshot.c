@@ -11,19 +11,19 @@ bool clsm_await_calls(struct snapshot *snapshot) {
 
 /* Whether a call may be made now, once no other one is running on it; a child process has no thread
  * that would end one of its parent's. */
-static bool enter(struct snapshot *self) {
+bool clsm_enter_snapshot(struct snapshot *self) {
     if (!clsm_is_forked_object(self->store) && !clsm_await_calls(self)) return false;
     if (self->handle && clsm_is_usable(self->store)) return true;
     clsm_refuse_call(self->store, CLSM_BAD_POINTER);
     return false;
 }
 
-static void begin(struct snapshot *self) {
+void clsm_begin_on(struct snapshot *self) {
     self->is_in_call = true;
     clsm_begin_call(self->store);
 }
 
-static void end(struct snapshot *self) {
+void clsm_end_on(struct snapshot *self) {
     self->is_in_call = false;
     clsm_wake_all(self->waiting);
     clsm_end_call(self->store);
@@ -32,7 +32,8 @@ static void end(struct snapshot *self) {
 static PyObject *get(struct snapshot *self, PyObject *const *arguments, Py_ssize_t count) {
     clsm_value value;
     uint64_t key;
-    if (!clsm_has_arguments(count, 2) || !clsm_read_key(arguments[0], &key) || !enter(self))
+    if (!clsm_has_arguments(count, 2) || !clsm_read_key(arguments[0], &key)
+        || !clsm_enter_snapshot(self))
         return NULL;
     const int code = clsm_snapshot_get(self->handle, key, &value);
     if (code == CLSM_OK) return clsm_new_value(&value);
@@ -43,7 +44,7 @@ static PyObject *get(struct snapshot *self, PyObject *const *arguments, Py_ssize
 
 static PyObject *has(struct snapshot *self, PyObject *object) {
     uint64_t key;
-    if (!clsm_read_key(object, &key) || !enter(self)) return NULL;
+    if (!clsm_read_key(object, &key) || !clsm_enter_snapshot(self)) return NULL;
     const int code = clsm_snapshot_get(self->handle, key, NULL);
     if (code != CLSM_OK && code != CLSM_NOT_FOUND) return clsm_refuse_call(self->store, code);
     return PyBool_FromLong(code == CLSM_OK);
@@ -53,27 +54,27 @@ static PyObject *count(struct snapshot *self, PyObject *const *arguments, Py_ssi
     uint64_t first, last, keys = 0;
     int code;
     if (!clsm_has_arguments(number, 2) || !clsm_read_key(arguments[0], &first)
-        || !clsm_read_key(arguments[1], &last) || !enter(self))
+        || !clsm_read_key(arguments[1], &last) || !clsm_enter_snapshot(self))
         return NULL;
-    begin(self);
+    clsm_begin_on(self);
     Py_BEGIN_ALLOW_THREADS
     code = clsm_snapshot_count(self->handle, first, last, &keys);
     Py_END_ALLOW_THREADS
-    end(self);
+    clsm_end_on(self);
     if (code != CLSM_OK) return clsm_refuse_call(self->store, code);
     return PyLong_FromUnsignedLongLong(keys);
 }
 
-int clsm_read_snapshot(struct snapshot *self, uint64_t first, uint64_t last, clsm_row *rows,
-                       size_t room, clsm_page_end *page) {
+int clsm_read_snapshot(struct snapshot *self, clsm_snapshot_paging *page, uint64_t from,
+                       uint64_t to, clsm_row *rows, size_t room, clsm_page_end *told) {
     int code;
     if (!clsm_is_forked_object(self->store) && !clsm_await_calls(self)) return -1;
     if (!self->handle || !clsm_is_usable(self->store)) return CLSM_BAD_POINTER;
-    begin(self);
+    clsm_begin_on(self);
     Py_BEGIN_ALLOW_THREADS
-    code = clsm_snapshot_page(self->handle, first, last, rows, room, page);
+    code = page(self->handle, from, to, rows, room, told);
     Py_END_ALLOW_THREADS
-    end(self);
+    clsm_end_on(self);
     return code;
 }
 
@@ -145,6 +146,8 @@ static void dealloc(PyObject *object) {
 
 static PyMethodDef methods[] = {
     {"_get", METHOD(get), METH_FASTCALL, NULL},
+    {"_get_many", METHOD(clsm_get_many_at), METH_O, NULL},
+    {"_end", METHOD(clsm_end_at), METH_FASTCALL, NULL},
     {"_has", METHOD(has), METH_O, NULL},
     {"_count", METHOD(count), METH_FASTCALL, NULL},
     {"close", METHOD(close_it), METH_NOARGS, NULL},

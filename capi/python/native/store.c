@@ -95,20 +95,7 @@ static void give_up_seats(struct store *store) {
 
 /* ---- Calls that give up the interpreter's lock */
 
-/* What a call is given, and where its answers go. */
-struct call {
-    int (*make)(clsm_caller *caller, struct call *call);
-    uint64_t key, last;
-    clsm_value value, expected;
-    clsm_changed changed;
-    const clsm_row *rows;
-    size_t count;
-    uint64_t keys;
-};
-
-/* Makes a call by a caller of this range. It follows what was seen, and is followed, so nothing that
- * a thread saw runs back. The code, or -1 once it has raised an exception. */
-static int make_call(struct store *store, int first, int last, struct call *call) {
+int clsm_make_call(struct store *store, int first, int last, struct call *call) {
     const int number = find_caller(store, first, last);
     if (number < 0) return -1;
     struct caller *caller = &store->callers[number];
@@ -131,8 +118,9 @@ static int make_call(struct store *store, int first, int last, struct call *call
 static int make_write_once(struct store *store, struct call *call) {
     const uint64_t thread = clsm_thread_number();
     for (const struct snapshot *open = store->snapshots; open; open = open->next)
-        if (open->thread == thread) return make_call(store, open->opener, open->opener + 1, call);
-    return make_call(store, WRITERS, CALLERS, call);
+        if (open->thread == thread)
+            return clsm_make_call(store, open->opener, open->opener + 1, call);
+    return clsm_make_call(store, WRITERS, CALLERS, call);
 }
 
 static int64_t milliseconds(void) {
@@ -141,9 +129,7 @@ static int64_t milliseconds(void) {
     return (int64_t)now.tv_sec * MILLISECONDS + (int64_t)now.tv_nsec / NANOSECONDS;
 }
 
-/* The same. While it waits for a snapshot to be closed, it comes back now and then, for handlers of
- * signals and for other writers. */
-static int make_write(struct store *store, struct call *call) {
+int clsm_make_write(struct store *store, struct call *call) {
     int64_t began = 0;
     for (;;) {
         const int code = make_write_once(store, call);
@@ -186,7 +172,7 @@ static PyObject *count(struct store *self, PyObject *const *arguments, Py_ssize_
     if (!clsm_has_arguments(number, 2) || !clsm_read_key(arguments[0], &call.key)
         || !clsm_read_key(arguments[1], &call.last))
         return NULL;
-    const int code = make_call(self, READERS, WRITERS, &call);
+    const int code = clsm_make_call(self, READERS, WRITERS, &call);
     if (code < 0) return NULL;
     if (code != CLSM_OK) return clsm_refuse_call(self, code);
     return PyLong_FromUnsignedLongLong(call.keys);
@@ -244,7 +230,7 @@ static PyObject *put(struct store *self, PyObject *const *arguments, Py_ssize_t 
     if (code != CLSM_OK) { /* it may be another one if the write waits */
         note_try(self, code);
         call.make = call_put;
-        code = make_write(self, &call);
+        code = clsm_make_write(self, &call);
     }
     return code < 0 ? NULL : none_or_refuse(self, code);
 }
@@ -259,7 +245,7 @@ static PyObject *remove_key(struct store *self, PyObject *object) {
     int code = clsm_try_remove(self->shared, call.key);
     if (code != CLSM_OK) {
         note_try(self, code);
-        code = make_write(self, &call);
+        code = clsm_make_write(self, &call);
     }
     return code < 0 ? NULL : none_or_refuse(self, code);
 }
@@ -281,7 +267,7 @@ static PyObject *write_rows(struct store *self, PyObject *rows) {
     if (!copied) return PyErr_NoMemory();
     memcpy(copied, PyByteArray_AsString(rows), size);
     call.rows = copied;
-    const int code = make_write(self, &call);
+    const int code = clsm_make_write(self, &call);
     PyMem_Free(copied);
     if (code < 0) return NULL;
     if (code == CLSM_OK && PySequence_DelSlice(rows, 0, (Py_ssize_t)size)) return NULL;
@@ -299,7 +285,7 @@ static PyObject *add(struct store *self, PyObject *const *arguments, Py_ssize_t 
     if (!clsm_has_arguments(number, 2) || !clsm_read_key(arguments[0], &call.key)
         || !clsm_read_word(arguments[1], &call.last))
         return NULL;
-    const int code = make_write(self, &call);
+    const int code = clsm_make_write(self, &call);
     if (code < 0) return NULL;
     if (code == CLSM_OK) return clsm_new_value(&call.changed.after);
     if (code != CLSM_KEPT) return clsm_refuse_call(self, code);
@@ -318,7 +304,7 @@ static PyObject *put_if_absent(struct store *self, PyObject *const *arguments, P
     if (!clsm_has_arguments(number, 2) || !clsm_read_key(arguments[0], &call.key)
         || !clsm_read_value(arguments[1], &call.value))
         return NULL;
-    const int code = make_write(self, &call);
+    const int code = clsm_make_write(self, &call);
     if (code < 0) return NULL;
     if (code != CLSM_OK && code != CLSM_KEPT) return clsm_refuse_call(self, code);
     return clsm_new_value(&call.changed.after);
@@ -335,7 +321,7 @@ static PyObject *replace(struct store *self, PyObject *const *arguments, Py_ssiz
         || !clsm_read_value_or_none(arguments[1], &call.expected)
         || !clsm_read_value_or_none(arguments[2], &call.value))
         return NULL;
-    const int code = make_write(self, &call);
+    const int code = clsm_make_write(self, &call);
     if (code < 0) return NULL;
     if (code != CLSM_OK && code != CLSM_KEPT) return clsm_refuse_call(self, code);
     PyObject *before = clsm_new_value(&call.changed.before);
@@ -500,6 +486,8 @@ static void dealloc(PyObject *object) {
 
 static PyMethodDef methods[] = {
     {"_get", METHOD(get), METH_FASTCALL, NULL},
+    {"_get_many", METHOD(clsm_get_many_of), METH_O, NULL},
+    {"_end", METHOD(clsm_end_of), METH_FASTCALL, NULL},
     {"_has", METHOD(has), METH_O, NULL},
     {"_count", METHOD(count), METH_FASTCALL, NULL},
     {"_stats", METHOD(stats), METH_NOARGS, NULL},
@@ -507,6 +495,7 @@ static PyMethodDef methods[] = {
     {"_put", METHOD(put), METH_FASTCALL, NULL},
     {"_remove", METHOD(remove_key), METH_O, NULL},
     {"_write_rows", METHOD(write_rows), METH_O, NULL},
+    {"_write_if", METHOD(clsm_write_if), METH_FASTCALL, NULL},
     {"_add", METHOD(add), METH_FASTCALL, NULL},
     {"_put_if_absent", METHOD(put_if_absent), METH_FASTCALL, NULL},
     {"_replace", METHOD(replace), METH_FASTCALL, NULL},

@@ -37,6 +37,7 @@ STRUCTURES: Dict[str, Any] = {
     "clsm_row": library.Row,
     "clsm_changed": library.Changed,
     "clsm_page_end": library.PageEnd,
+    "clsm_range_count": library.RangeCount,
     "clsm_options": library.Options,
     "clsm_statistics": library.Statistics,
 }
@@ -150,12 +151,15 @@ class Declarations(unittest.TestCase):
     def test_what_keeps_the_lock_of_the_interpreter(self) -> None:
         keeping = [library.get, library.page, library.snapshot_get, library.seen, library.follow]
         keeping += [library.PUT.attempt, library.REMOVE.attempt, library.snapshot_time]
+        keeping += [library.page_down, library.first, library.last, library.get_few]
+        keeping += [library.snapshot_first, library.snapshot_last]
         keeping += [library.caller_close_at, library.snapshot_close_at]
         releasing = [library.count, library.snapshot_count, library.snapshot_page]
         releasing += [library.PUT.wait, library.REMOVE.wait, library.batch, library.stats, library.sweep]
         releasing += [library.add, library.put_if_absent, library.replace]
         releasing += [library.store_open, library.store_close_at, library.snapshot_open]
-        releasing += [library.caller_open]
+        releasing += [library.caller_open, library.get_many, library.snapshot_get_many]
+        releasing += [library.batch_if, library.snapshot_page_down]
         self.assertEqual([is_kept_by(call) for call in keeping], [True] * len(keeping))
         self.assertEqual([is_kept_by(call) for call in releasing], [False] * len(releasing))
 

@@ -14,7 +14,10 @@ static struct write {
     uint64_t key, value; /* 0: none */
 } writes[TIMES];
 
-static struct read { uint64_t time, key, value; } reads[TIMES];
+static struct read {
+    uint64_t time, key, value;
+    bool differs;
+} reads[TIMES];
 static struct count { uint64_t time, keys; } counts[TIMES];
 
 static size_t reads_made, counts_made;
@@ -50,7 +53,13 @@ static void note_write(uint64_t time, uint64_t key, uint64_t value) {
 
 static void note_read(uint64_t time, uint64_t key, uint64_t value) {
     expect(reads_made < TIMES, "there is room for notes");
-    reads[reads_made++] = (struct read){time, key, value};
+    reads[reads_made++] = (struct read){time, key, value, false};
+}
+
+/* The same of a key that had another value than this one. */
+static void note_other(uint64_t time, uint64_t key, uint64_t value) {
+    note_read(time, key, value);
+    reads[reads_made - 1].differs = true;
 }
 
 static void check_read(const struct read *read) {
@@ -60,7 +69,7 @@ static void check_read(const struct read *read) {
         value = writes[time].value;
         break;
     }
-    expect(value == read->value, "a read has what was written below its time");
+    expect((value == read->value) != read->differs, "a read has what was written below its time");
 }
 
 /* What the keys have at this time, and how many have a value. */
@@ -137,6 +146,74 @@ int batch(unsigned who, uint64_t first, size_t count, uint64_t codes) {
     return code;
 }
 
+/* Notes what such a batch found and wrote: two rows from the first key on. */
+static int wrote_if(unsigned who, uint64_t seen, int code, const clsm_row *expected,
+                    const clsm_row *rows, size_t unmet) {
+    const uint64_t time = clsm_time(callers[who]);
+    if (code == CLSM_KEPT) {
+        check_time(who, seen, 0);
+        expect(unmet < 2, "a range is the same where its rows are");
+        note_other(time, expected[unmet].key, expected[unmet].value.words[0]);
+    }
+    if (code != CLSM_OK) return code;
+    check_time(who, seen, rows ? 2 : 0);
+    for (size_t i = 0; i < 2; i++) {
+        note_read(time, expected[i].key, expected[i].value.words[0]);
+        if (rows) note_write(time + i, rows[i].key, rows[i].value.words[0]);
+    }
+    return code;
+}
+
+int batch_if(unsigned who, uint64_t first, bool is_write, uint64_t codes) {
+    const uint64_t keys[] = {first, first + 1};
+    clsm_value found[2];
+    expect_code(clsm_get_many(callers[who], keys, 2, found), 0, "get_many");
+    for (size_t i = 0; i < 2; i++) note_read(clsm_time(callers[who]), keys[i], found[i].words[0]);
+    const clsm_row expected[] = {{first, found[0]}, {first + 1, found[1]}};
+    const clsm_range_count both = {first, first + 1, found[0].length + found[1].length};
+    const clsm_row rows[] = {{first, {1, {++values}}}, {first + 1, {1, {++values}}}};
+    const uint64_t seen = seen_by(who);
+    size_t unmet = 2;
+    int code = clsm_batch_if(callers[who], expected, 2, &both, 1, rows, is_write ? 2 : 0, &unmet);
+    expect_counted(code, codes | OR(KEPT), "batch_if");
+    return wrote_if(who, seen, code, expected, is_write ? rows : NULL, unmet);
+}
+
+/* Reads two keys, and a range that has both, and notes writes of both. */
+static void read_and_write(clsm_transaction *transaction, uint64_t first, clsm_row *found,
+                           clsm_row *rows) {
+    clsm_row page[2];
+    clsm_page_end end;
+    for (size_t i = 0; i < 2; i++) {
+        found[i].key = first + i;
+        const int code = clsm_transaction_get(transaction, first + i, &found[i].value);
+        expect_code(code, OR(NOT_FOUND), "transaction_get");
+    }
+    const int code = clsm_transaction_page(transaction, first, first + 1, page, 2, &end);
+    expect_code(code, 0, "transaction_page");
+    expect(end.rows == found[0].value.length + found[1].value.length && !end.more,
+           "a page is of the moment of the first read");
+    for (size_t i = 0; i < 2; i++) {
+        rows[i] = (clsm_row){first + i, {1, {++values}}};
+        clsm_transaction_put(transaction, first + i, rows[i].value.words, 1);
+    }
+}
+
+void transact(unsigned who, uint64_t first) {
+    clsm_transaction *transaction;
+    clsm_row found[2], rows[2];
+    uint64_t seen;
+    int code;
+    expect_code(clsm_transaction_open(callers[who], &transaction), 0, "transaction_open");
+    do {
+        read_and_write(transaction, first, found, rows);
+        seen = seen_by(who);
+        code = clsm_transaction_commit(transaction);
+    } while (expect_code(code, OR(CONFLICT), "transaction_commit") == CLSM_CONFLICT);
+    wrote_if(who, seen, code, found, rows, 0);
+    clsm_transaction_close(transaction);
+}
+
 int add(unsigned who, uint64_t key, uint64_t codes) {
     const uint64_t seen = seen_by(who);
     clsm_changed changed;
@@ -151,6 +228,17 @@ void get(unsigned who, uint64_t key) {
     expect_code(clsm_get(callers[who], key, &value), OR(NOT_FOUND), "get");
     check_time(who, seen, 0);
     note_read(clsm_time(callers[who]), key, value.words[0]);
+}
+
+void get_many(unsigned who) {
+    enum { MANY = 5 };
+    static const uint64_t keys[MANY] = {0, 1, 2, 3, 4};
+    const uint64_t seen = seen_by(who);
+    clsm_value found[MANY];
+    expect_code(clsm_get_many(callers[who], keys, MANY, found), 0, "get_many");
+    check_time(who, seen, 0);
+    for (uint64_t key = 0; key < MANY; key++)
+        note_read(clsm_time(callers[who]), key, found[key].words[0]);
 }
 
 uint64_t count_keys(unsigned who) {
@@ -175,6 +263,20 @@ void page(unsigned who) {
         note_read(clsm_time(callers[who]), key, has_value ? rows[at++].value.words[0] : 0);
     }
     expect(at == end.rows && !end.more, "a page has each key once, in order");
+}
+
+void page_down(unsigned who) {
+    const uint64_t seen = seen_by(who);
+    uint64_t at = 0;
+    clsm_row rows[KEYS];
+    clsm_page_end end;
+    expect_code(clsm_page_down(callers[who], KEYS, 0, rows, KEYS, &end), 0, "page_down");
+    check_time(who, seen, 0);
+    for (uint64_t key = KEYS; key-- > 0;) {
+        const bool has_value = at < end.rows && rows[at].key == key;
+        note_read(clsm_time(callers[who]), key, has_value ? rows[at++].value.words[0] : 0);
+    }
+    expect(at == end.rows && !end.more, "a page has each key once, in falling order");
 }
 
 /* ---- Others */

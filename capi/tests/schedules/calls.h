@@ -30,11 +30,19 @@ int put(unsigned who, uint64_t key, uint64_t codes);
 int try_put(unsigned who, uint64_t key, uint64_t codes);
 int removed(unsigned who, uint64_t key, uint64_t codes);
 int batch(unsigned who, uint64_t first, size_t count, uint64_t codes);
+/* Reads two keys at one time, and writes both if they still have what was read, or only tests it.
+ */
+int batch_if(unsigned who, uint64_t first, bool is_write, uint64_t codes);
+/* The same by a transaction, until it is written. */
+void transact(unsigned who, uint64_t first);
 int add(unsigned who, uint64_t key, uint64_t codes);
 void get(unsigned who, uint64_t key);
+/* Reads five keys at one time. */
+void get_many(unsigned who);
 uint64_t count_keys(unsigned who);
 /* Reads all rows at once. */
 void page(unsigned who);
+void page_down(unsigned who);
 
 /* Null where that is refused. */
 clsm_caller *open_caller(uint64_t codes);

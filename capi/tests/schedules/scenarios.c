@@ -46,6 +46,15 @@ static void batch_of_one(uint64_t who) { batch((unsigned)who, 4, 1, 0); }
 static void batch_of_two(uint64_t who) { batch((unsigned)who, 4, 2, 0); }
 static void batch_of_old(uint64_t who) { batch((unsigned)who, 1, 3, 0); }
 static void batch_of_all(uint64_t who) { batch((unsigned)who, 4, EPOCH, 0); }
+static void write_if_once(uint64_t who) { batch_if((unsigned)who, 1, true, 0); }
+static void test_once(uint64_t who) { batch_if((unsigned)who, 1, false, 0); }
+
+/* Nobody else keeps it from being written, if it is tried as often. */
+static void write_if_till_it_is(uint64_t who) {
+    while (batch_if((unsigned)who, 1, true, 0) != CLSM_OK) continue;
+}
+
+static void transact_once(uint64_t who) { transact((unsigned)who, 1); }
 static void sweep_once(uint64_t codes) { sweep(codes); }
 
 /* Lets others try in vain for some time. */
@@ -290,6 +299,8 @@ static void scan_once(uint64_t who) {
 /* Reads in parts. */
 static void count_all(uint64_t who) { count_keys((unsigned)who); }
 static void page_all(uint64_t who) { page((unsigned)who); }
+static void page_all_down(uint64_t who) { page_down((unsigned)who); }
+static void get_five(uint64_t who) { get_many((unsigned)who); }
 
 static void look_once(uint64_t with) {
     (void)with;
@@ -378,6 +389,7 @@ static void crowd_by_versions(void) {
 static void put_old(uint64_t who) { put((unsigned)who, 0, 0); }
 static void put_new(uint64_t who) { put((unsigned)who, NEW_KEY + who, OR(RUN_FULL)); }
 static void put_new_surely(uint64_t who) { put((unsigned)who, NEW_KEY, 0); }
+static void write_if_new(uint64_t who) { batch_if((unsigned)who, NEW_KEY, true, OR(RUN_FULL)); }
 static void batch_new(uint64_t who) { batch((unsigned)who, NEW_KEY, 2, OR(RUN_FULL)); }
 
 static void try_put_new(uint64_t who) {
@@ -545,6 +557,26 @@ static const struct scenario {
              BY(put_thrice, 1), BY(put_twice, 2)),
     SCENARIO(pages, BOTH, USUAL, 2, fill_epoch, AS_IT_IS, NULL, BY(page_all, 0),
              BY(batch_of_old, 1)),
+    SCENARIO(pages_down, BOTH, USUAL, 2, fill_epoch, AS_IT_IS, NULL, BY(page_all_down, 0),
+             BY(batch_of_old, 1)),
+    SCENARIO(many, BOTH, USUAL, 2, fill_epoch, AS_IT_IS, NULL, BY(get_five, 0),
+             BY(batch_of_old, 1)),
+    SCENARIO(conditions, BOTH, USUAL, 2, fill_epoch, AS_IT_IS, NULL, BY(write_if_till_it_is, 0),
+             BY(write_if_till_it_is, 1)),
+    SCENARIO(conditions_and_put, BOTH, FEWER, 3, fill_half, AS_IT_IS, NULL, BY(write_if_once, 0),
+             BY(put_twice, 1), BY(write_if_once, 2)),
+    SCENARIO(transactions, BOTH, FEWER, 2, fill_epoch, AS_IT_IS, NULL, BY(transact_once, 0),
+             BY(transact_once, 1)),
+    SCENARIO(transaction_and_put, BOTH, FEWER, 2, fill_half, AS_IT_IS, NULL, BY(transact_once, 0),
+             BY(put_twice, 1)),
+    SCENARIO(busy_conditions, BOTH, USUAL, 2, fill_one, TOLD(BATCH, BUSY, 5), NULL,
+             BY(write_if_once, 0), BY(put_thrice, 1)),
+    SCENARIO(tested, BOTH, FEWER, 2, fill_half, TOLD(BATCH, BUSY, 5), NULL, BY(test_once, 0),
+             BY(put_twice, 1)),
+    SCENARIO(held_conditions, BOTH, USUAL, 1, hold_full, AS_IT_IS, NULL, BY(close_snapshot, 0),
+             BY(write_if_once, 0)),
+    SCENARIO(crowded_conditions, BOTH, FEWER, 2, crowd_by_none, TOLD(BATCH, BUSY, 5), check_crowd,
+             BY(write_if_new, 0), BY(put_new, 1)),
     SCENARIO(two_look, BOTH, FEWER, 2, fill_epoch, AS_IT_IS, NULL, BY(look_once, 0),
              BY(look_once, 0), BY(put_once, 1)),
     SCENARIO(followed, BOTH, USUAL, 2, run_back, AS_IT_IS, NULL, BY(put_and_send, 0),

@@ -27,6 +27,7 @@
 #undef CLSM_SEATS
 #define CLSM_SEATS          4
 #define CLSM_PART_ROWS      2
+#define CLSM_PART_KEYS      2
 #define CLSM_COUNT_ROWS     2
 #define CLSM_PARTS_OF_EPOCH 4
 
@@ -136,12 +137,16 @@ static inline uint32_t of_a_handle(uint32_t code) {
 #define clsm_core_try_put(...)        AT_CORE("put", clsm_core_try_put(__VA_ARGS__))
 #define clsm_core_try_remove(...)     AT_CORE("remove", clsm_core_try_remove(__VA_ARGS__))
 #define clsm_core_try_batch(...)      AT_CORE("batch", clsm_core_try_batch(__VA_ARGS__))
+#define clsm_core_try_batch_if(...)   AT_CORE("batch if", clsm_core_try_batch_if(__VA_ARGS__))
 #define clsm_core_try_add(...)        AT_CORE("add", clsm_core_try_add(__VA_ARGS__))
 #define clsm_core_try_replace(...)    AT_CORE("replace", clsm_core_try_replace(__VA_ARGS__))
 #define clsm_core_get(...)            AT_CORE("get", clsm_core_get(__VA_ARGS__))
+#define clsm_core_get_many(...)       AT_CORE("get many", clsm_core_get_many(__VA_ARGS__))
+#define clsm_core_get_many_at(...)    AT_CORE("get many at", clsm_core_get_many_at(__VA_ARGS__))
 #define clsm_core_get_at(...)         AT_CORE("get at", clsm_core_get_at(__VA_ARGS__))
 #define clsm_core_count(...)          AT_CORE("count", clsm_core_count(__VA_ARGS__))
 #define clsm_core_page(...)           AT_CORE("page", clsm_core_page(__VA_ARGS__))
+#define clsm_core_page_down(...)      AT_CORE("page down", clsm_core_page_down(__VA_ARGS__))
 #define clsm_core_snapshot(...)       AT_CORE("snapshot", clsm_core_snapshot(__VA_ARGS__))
 #define clsm_core_close_snapshot(...) AT_CORE("close", clsm_core_close_snapshot(__VA_ARGS__))
 #define clsm_core_try_freeze(...)     AT_CORE("freeze", clsm_core_try_freeze(__VA_ARGS__))

@@ -2,7 +2,7 @@
 
 from __future__ import annotations
 
-from typing import Any, Optional, Tuple
+from typing import Any, List, Optional, Tuple
 
 from . import _core as core
 from ._codecs import AnyKeyCodec, AnyValueCodec, plain
@@ -40,6 +40,17 @@ class Coded(Reader):
     def _get(self, key: Any, default: object) -> Any:
         words = super()._get(self._keys.key_of(key), None)
         return default if words is None else self._values.of_value(words)
+
+    def _get_many(self, keys: List[Any]) -> List[Any]:
+        found = super()._get_many([self._keys.key_of(key) for key in keys])
+        return [self._decoded(words) for words in found]
+
+    def _end(self, first: int, last: int, falls: bool) -> Any:
+        row = super()._end(first, last, falls)
+        return None if row is None else (self._keys.of_key(row[0]), self._values.of_value(row[1]))
+
+    def _number(self, key: Any) -> int:
+        return self._keys.key_of(key)
 
     def _has(self, key: Any) -> bool:
         return super()._has(self._keys.key_of(key))

@@ -65,6 +65,9 @@ _PAUSE = 0.001  # seconds until somebody who waits looks again
 _ARRAYS = [ctypes.c_uint64 * count for count in range(9)]
 _NO_WORDS = (0,) * 8
 
+_FEW_KEYS = 256  # that are read while the interpreter's lock is kept
+_COUNT_SIZE = ctypes.sizeof(library.RangeCount)
+
 # A row of the library: the key, the length of the value, and its eight words.
 _ROW = struct.Struct("=10Q")
 
@@ -97,6 +100,20 @@ def _value_of(found: library.Value) -> Optional[Value]:
         return None
     words: List[int] = found.words[: found.length]
     return words[0] if len(words) == 1 else tuple(words)
+
+
+def _many(keys: List[int]) -> Tuple[Any, Any]:
+    """The keys as the library has them, and room for their values."""
+    if not isinstance(keys, list):
+        raise TypeError("keys are a list")
+    numbers = [key_of(key) for key in keys]
+    return (ctypes.c_uint64 * len(numbers))(*numbers), (library.Value * len(numbers))()
+
+
+def _row_of(found: library.Row) -> Optional[Row]:
+    """The row that the library found, if it found one."""
+    value = _value_of(found.value)
+    return None if value is None else (found.key, value)
 
 
 def _page_of(rows: Any, end: library.PageEnd) -> Page:
@@ -249,17 +266,39 @@ class Store:
             self._refuse(code)
         return code == OK
 
+    def _get_many(self, keys: List[int]) -> List[Optional[Value]]:
+        numbers, values = _many(keys)
+        count = len(numbers)
+        if count <= _FEW_KEYS:
+            code = self._exclusively(library.get_few, self._main.pointer, numbers, count, values)
+        else:
+            code = self._call(_READERS, library.get_many, numbers, count, values)
+        self._check(code)
+        return [_value_of(value) for value in values]
+
+    def _end(self, first: int, last: int, falls: bool) -> Optional[Row]:
+        """The row of the least key of the range, or of the greatest one."""
+        row = library.Row()
+        call = library.last if falls else library.first
+        bounds = key_of(first), key_of(last)
+        code = self._exclusively(call, self._main.pointer, *bounds, row)
+        if code not in (OK, NOT_FOUND):
+            self._refuse(code)
+        return _row_of(row)
+
     def _count(self, first: int, last: int) -> int:
         keys = ctypes.c_uint64()
         self._check(self._call(_READERS, library.count, first, last, ctypes.byref(keys)))
         return keys.value
 
-    def _page(self, first: int, last: int, room: int) -> Page:
-        """The first rows of the range, and the key of the next one if there are more."""
+    def _page(self, start: int, end_of_range: int, room: int, falls: bool) -> Page:
+        """The first rows of the range, or the last ones by falling key, and the key of the next
+        one if there are more."""
         rows = (library.Row * room)()
         end = library.PageEnd()
+        call = library.page_down if falls else library.page
         pointer = self._main.pointer
-        code = self._exclusively(library.page, pointer, first, last, rows, room, end)
+        code = self._exclusively(call, pointer, start, end_of_range, rows, room, end)
         self._check(code)
         return _page_of(rows, end)
 
@@ -312,6 +351,21 @@ class Store:
         self._check(self._call_to_write(library.batch, copied, count))
         if rows.startswith(written):  # a handler of a signal may have written or cleared them
             del rows[: len(written)]
+
+    def _write_if(self, expected: bytes, counts: bytes, rows: bytes) -> Optional[int]:
+        """Writes rows if the conditions hold: the place of the first one that does not."""
+        sizes = len(expected) // _ROW.size, len(counts) // _COUNT_SIZE, len(rows) // _ROW.size
+        unmet = ctypes.c_size_t()
+        code = self._call_to_write(
+            library.batch_if,
+            *((library.Row * sizes[0]).from_buffer_copy(expected), sizes[0]),
+            *((library.RangeCount * sizes[1]).from_buffer_copy(counts), sizes[1]),
+            *((library.Row * sizes[2]).from_buffer_copy(rows), sizes[2]),
+            ctypes.byref(unmet),
+        )
+        if code not in (OK, KEPT):
+            self._refuse(code)
+        return unmet.value if code == KEPT else None
 
     def _change(self, call: library.Call, *arguments: Any) -> Tuple[bool, library.Changed]:
         """Whether the call has written, and what the key had and has."""
@@ -452,6 +506,26 @@ class Snapshot:
             self._store._refuse(code)
         return code == OK
 
+    def _get_many(self, keys: List[int]) -> List[Optional[Value]]:
+        numbers, values = _many(keys)
+        view = self._view
+        with view.lock:
+            code = library.snapshot_get_many(view.pointer, numbers, len(numbers), values)
+        self._store._check(code)
+        return [_value_of(value) for value in values]
+
+    def _end(self, first: int, last: int, falls: bool) -> Optional[Row]:
+        """The row of the least key of the range, or of the greatest one."""
+        row = library.Row()
+        call = library.snapshot_last if falls else library.snapshot_first
+        bounds = key_of(first), key_of(last)
+        view = self._view
+        with view.lock:
+            code = call(view.pointer, *bounds, row)
+        if code not in (OK, NOT_FOUND):
+            self._store._refuse(code)
+        return _row_of(row)
+
     def _count(self, first: int, last: int) -> int:
         keys = ctypes.c_uint64()
         view = self._view
@@ -460,13 +534,15 @@ class Snapshot:
         self._store._check(code)
         return keys.value
 
-    def _page(self, first: int, last: int, room: int) -> Page:
-        """The first rows of the range, and the key of the next one if there are more."""
+    def _page(self, start: int, end_of_range: int, room: int, falls: bool) -> Page:
+        """The first rows of the range, or the last ones by falling key, and the key of the next
+        one if there are more."""
         rows = (library.Row * room)()
         end = library.PageEnd()
+        call = library.snapshot_page_down if falls else library.snapshot_page
         view = self._view
         with view.lock:
-            code = library.snapshot_page(view.pointer, first, last, rows, room, end)
+            code = call(view.pointer, start, end_of_range, rows, room, end)
         self._store._check(code)
         return _page_of(rows, end)
 
@@ -491,13 +567,15 @@ class Rows:
         room: int,
         greatest_room: int,
         is_own: bool,
+        falls: bool = False,
     ) -> None:
         self._reader: Union[Store, Snapshot, None] = reader
-        self._last = last
+        self._last = first if falls else last
+        self._falls = falls
         self._greatest_room = greatest_room
         self._is_own = is_own
         self._lock = threading.RLock()
-        self._place: Place = iter(()), first, room
+        self._place: Place = iter(()), last if falls else first, room
 
     def __iter__(self) -> Any:
         return self
@@ -520,7 +598,7 @@ class Rows:
             if reader is None or at is None:
                 self.close()
                 raise StopIteration
-            page, following = reader._page(at, self._last, room)
+            page, following = reader._page(at, self._last, room, self._falls)
             self._place = iter(page), following, min(2 * room, self._greatest_room)
 
     def close(self) -> None:

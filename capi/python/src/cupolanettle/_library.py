@@ -51,6 +51,12 @@ class PageEnd(ctypes.Structure):
     _fields_ = [("rows", c_uint64), ("next", c_uint64), ("more", c_bool)]
 
 
+class RangeCount(ctypes.Structure):
+    """A range, and how many of its keys are to have a value."""
+
+    _fields_ = [("first", c_uint64), ("last", c_uint64), ("keys", c_uint64)]
+
+
 class Options(ctypes.Structure):
     """How to open a store; 0 leaves a choice to the library."""
 
@@ -114,20 +120,34 @@ DECLARED: Dict[str, Tuple[Any, Sequence[Any]]] = {
     "clsm_try_put": (c_int, [_HANDLE, c_uint64, _WORDS, c_size_t]),
     "clsm_try_remove": (c_int, [_HANDLE, c_uint64]),
     "clsm_get": (c_int, [_HANDLE, c_uint64, POINTER(Value)]),
+    "clsm_get_many": (c_int, [_HANDLE, _WORDS, c_size_t, POINTER(Value)]),
     "clsm_count": (c_int, [_HANDLE, c_uint64, c_uint64, _WORDS]),
     "clsm_page": (
         c_int,
         [_HANDLE, c_uint64, c_uint64, POINTER(Row), c_size_t, POINTER(PageEnd)],
     ),
+    "clsm_page_down": (
+        c_int,
+        [_HANDLE, c_uint64, c_uint64, POINTER(Row), c_size_t, POINTER(PageEnd)],
+    ),
+    "clsm_first": (c_int, [_HANDLE, c_uint64, c_uint64, POINTER(Row)]),
+    "clsm_last": (c_int, [_HANDLE, c_uint64, c_uint64, POINTER(Row)]),
     "clsm_snapshot_open": (c_int, [_HANDLE, POINTER(_HANDLE)]),
     "clsm_snapshot_close_at": (None, [POINTER(_HANDLE)]),
     "clsm_snapshot_time": (c_uint64, [_HANDLE]),
     "clsm_snapshot_get": (c_int, [_HANDLE, c_uint64, POINTER(Value)]),
+    "clsm_snapshot_get_many": (c_int, [_HANDLE, _WORDS, c_size_t, POINTER(Value)]),
     "clsm_snapshot_count": (c_int, [_HANDLE, c_uint64, c_uint64, _WORDS]),
     "clsm_snapshot_page": (
         c_int,
         [_HANDLE, c_uint64, c_uint64, POINTER(Row), c_size_t, POINTER(PageEnd)],
     ),
+    "clsm_snapshot_page_down": (
+        c_int,
+        [_HANDLE, c_uint64, c_uint64, POINTER(Row), c_size_t, POINTER(PageEnd)],
+    ),
+    "clsm_snapshot_first": (c_int, [_HANDLE, c_uint64, c_uint64, POINTER(Row)]),
+    "clsm_snapshot_last": (c_int, [_HANDLE, c_uint64, c_uint64, POINTER(Row)]),
     "clsm_add": (c_int, [_HANDLE, c_uint64, c_uint64, POINTER(Changed)]),
     "clsm_put_if_absent": (c_int, [_HANDLE, c_uint64, POINTER(Value), POINTER(Changed)]),
     "clsm_replace": (
@@ -135,6 +155,13 @@ DECLARED: Dict[str, Tuple[Any, Sequence[Any]]] = {
         [_HANDLE, c_uint64, POINTER(Value), POINTER(Value), POINTER(Changed)],
     ),
     "clsm_batch": (c_int, [_HANDLE, POINTER(Row), c_size_t]),
+    "clsm_batch_if": (
+        c_int,
+        [
+            *(_HANDLE, POINTER(Row), c_size_t, POINTER(RangeCount), c_size_t),
+            *(POINTER(Row), c_size_t, POINTER(c_size_t)),
+        ],
+    ),
 }
 
 
@@ -196,6 +223,11 @@ follow: Call = _bind(_keeping, "clsm_follow")
 
 get: Call = _bind(_keeping, "clsm_get")
 page: Call = _bind(_keeping, "clsm_page")  # of few rows
+page_down: Call = _bind(_keeping, "clsm_page_down")
+first: Call = _bind(_keeping, "clsm_first")
+last: Call = _bind(_keeping, "clsm_last")
+get_few: Call = _bind(_keeping, "clsm_get_many")
+get_many: Call = _bind(_releasing, "clsm_get_many")
 count: Call = _bind(_releasing, "clsm_count")
 PUT = WriteCalls(_bind(_keeping, "clsm_try_put"), _bind(_releasing, "clsm_put"))
 REMOVE = WriteCalls(_bind(_keeping, "clsm_try_remove"), _bind(_releasing, "clsm_remove"))
@@ -203,6 +235,7 @@ add: Call = _bind(_releasing, "clsm_add")
 put_if_absent: Call = _bind(_releasing, "clsm_put_if_absent")
 replace: Call = _bind(_releasing, "clsm_replace")
 batch: Call = _bind(_releasing, "clsm_batch")
+batch_if: Call = _bind(_releasing, "clsm_batch_if")
 
 snapshot_open: Call = _bind(_releasing, "clsm_snapshot_open")
 snapshot_close_at: Call = _bind(_keeping, "clsm_snapshot_close_at")
@@ -210,3 +243,7 @@ snapshot_time: Call = _bind(_keeping, "clsm_snapshot_time")
 snapshot_get: Call = _bind(_keeping, "clsm_snapshot_get")
 snapshot_count: Call = _bind(_releasing, "clsm_snapshot_count")
 snapshot_page: Call = _bind(_releasing, "clsm_snapshot_page")
+snapshot_page_down: Call = _bind(_releasing, "clsm_snapshot_page_down")
+snapshot_first: Call = _bind(_keeping, "clsm_snapshot_first")
+snapshot_last: Call = _bind(_keeping, "clsm_snapshot_last")
+snapshot_get_many: Call = _bind(_releasing, "clsm_snapshot_get_many")

@@ -2,16 +2,18 @@
 
 from __future__ import annotations
 
-from typing import Any, NoReturn, Optional, Tuple, TypeVar, Union, overload
+from typing import Any, Iterable, List, NoReturn, Optional, Tuple, TypeVar, Union, overload
 
 from . import _core as core
-from ._values import Value, range_of
+from ._values import Row, Value, key_of, range_of
 
 Default = TypeVar("Default")
 
+_GREATEST_KEY = 2**64 - 1
+
 
 class Rows(core.Rows):
-    """An iterator over rows by rising key: of one moment, or of each page's own.
+    """An iterator over rows by rising or falling key: of one moment, or of each page's own.
 
     :meth:`Store.scan` and :meth:`Snapshot.scan` make those of one moment, and :meth:`Store.walk`
     makes the others. Threads may share one: each row comes to one of them.
@@ -48,8 +50,18 @@ class Reader:
     def _has(self, key: int) -> bool:
         raise NotImplementedError
 
+    def _get_many(self, keys: List[int]) -> List[Optional[Value]]:
+        raise NotImplementedError
+
+    def _end(self, first: int, last: int, falls: bool) -> Optional[Row]:
+        raise NotImplementedError
+
     def _count(self, first: int, last: int) -> int:
         raise NotImplementedError
+
+    def _number(self, key: int) -> int:
+        """The key as the library has it."""
+        return key_of(key)
 
     def _range(self, start: Optional[int], stop: Optional[int]) -> Tuple[int, int]:
         """The first and the last key of the range; the first is greater if it is empty."""
@@ -86,6 +98,56 @@ class Reader:
         ((70, 71), None, 0)
         """
         return self._get(key, default)
+
+    def get_many(self, keys: Iterable[int]) -> List[Optional[Value]]:
+        """The values of the keys at one moment, each at the place of its key; ``None`` for none.
+
+        >>> with Store() as store:
+        ...     store.update({7: 70, 8: (80, 81)})
+        ...     store.get_many([8, 9, 7])
+        [(80, 81), None, 70]
+        """
+        return self._get_many(list(keys))
+
+    def first(self, start: Optional[int] = None, stop: Optional[int] = None) -> Optional[Row]:
+        """The row of the least key from ``start`` on and below ``stop`` that has a value, if any.
+
+        >>> with Store() as store:
+        ...     store.update({7: 70, 3: 30})
+        ...     store.first(), store.first(4), store.first(4, 7)
+        ((3, 30), (7, 70), None)
+        """
+        return self._end(*self._range(start, stop), False)
+
+    def last(self, start: Optional[int] = None, stop: Optional[int] = None) -> Optional[Row]:
+        """The row of the greatest key from ``start`` on and below ``stop`` that has a value, if any.
+
+        >>> with Store() as store:
+        ...     store.update({7: 70, 3: 30})
+        ...     store.last(), store.last(0, 7), store.last(8)
+        ((7, 70), (3, 30), None)
+        """
+        return self._end(*self._range(start, stop), True)
+
+    def floor(self, key: int) -> Optional[Row]:
+        """The row of the greatest key that has a value and is not above this one, if any.
+
+        >>> with Store() as store:
+        ...     store.update({7: 70, 3: 30})
+        ...     store.floor(6), store.floor(7), store.floor(2)
+        ((3, 30), (7, 70), None)
+        """
+        return self._end(0, self._number(key), True)
+
+    def ceiling(self, key: int) -> Optional[Row]:
+        """The row of the least key that has a value and is not below this one, if any.
+
+        >>> with Store() as store:
+        ...     store.update({7: 70, 3: 30})
+        ...     store.ceiling(4), store.ceiling(7), store.ceiling(8)
+        ((7, 70), (7, 70), None)
+        """
+        return self._end(self._number(key), _GREATEST_KEY, False)
 
     def __contains__(self, key: int) -> bool:
         """Whether the key has a value.

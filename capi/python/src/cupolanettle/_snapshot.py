@@ -22,6 +22,9 @@ class Items(ItemsView[int, Value]):
     def __iter__(self) -> Iterator[Row]:
         return self._mapping.scan()
 
+    def __reversed__(self) -> Iterator[Row]:
+        return self._mapping.scan(reverse=True)
+
 
 class Values(ValuesView[Value]):
     """The values of a snapshot."""
@@ -30,6 +33,9 @@ class Values(ValuesView[Value]):
 
     def __iter__(self) -> Iterator[Value]:
         return (value for _, value in self._mapping.scan())
+
+    def __reversed__(self) -> Iterator[Value]:
+        return (value for _, value in self._mapping.scan(reverse=True))
 
 
 class Snapshot(core.Snapshot, Reader, Mapping[int, Value]):
@@ -56,6 +62,17 @@ class Snapshot(core.Snapshot, Reader, Mapping[int, Value]):
     def __iter__(self) -> Iterator[int]:
         """The keys, by rising key."""
         return (key for key, _ in self.scan())
+
+    def __reversed__(self) -> Iterator[int]:
+        """The keys, by falling key.
+
+        >>> with Store() as store:
+        ...     store.update({7: 70, 3: 30})
+        ...     with store.snapshot() as snapshot:
+        ...         list(reversed(snapshot)), list(reversed(snapshot.items()))
+        ([7, 3], [(7, 70), (3, 30)])
+        """
+        return (key for key, _ in self.scan(reverse=True))
 
     def __len__(self) -> int:
         """How many keys have a value; visits all of them."""
@@ -107,20 +124,23 @@ class Snapshot(core.Snapshot, Reader, Mapping[int, Value]):
         """
         return self._time
 
-    def scan(self, start: Optional[int] = None, stop: Optional[int] = None) -> Rows:
+    def scan(
+        self, start: Optional[int] = None, stop: Optional[int] = None, reverse: bool = False
+    ) -> Rows:
         """The snapshot's iterator: its rows from ``start`` on and below ``stop``, of its moment.
 
-        A row is a key and its value; they come by rising key. Without ``stop`` there is no upper
-        end. The scan keeps the snapshot open.
+        A row is a key and its value; they come by rising key, or by falling key, where each costs
+        more. Without ``stop`` there is no upper end. The scan keeps the snapshot open.
 
         >>> with Store() as store:
         ...     for key in 20, 3, 7:
         ...         store[key] = 10 * key
         ...     with store.snapshot() as snapshot:
-        ...         list(snapshot.scan(3, 20))
-        [(3, 30), (7, 70)]
+        ...         list(snapshot.scan(3, 20)), list(snapshot.scan(reverse=True))
+        ([(3, 30), (7, 70)], [(20, 200), (7, 70), (3, 30)])
         """
-        return self._rows(self, *self._range(start, stop), FIRST_ROOM, GREATEST_ROOM, False)
+        rooms = FIRST_ROOM, GREATEST_ROOM
+        return self._rows(self, *self._range(start, stop), *rooms, False, bool(reverse))
 
     def close(self) -> None:
         """Closes the snapshot, after the calls that are running on it. Closes a closed one, too.

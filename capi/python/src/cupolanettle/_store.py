@@ -4,6 +4,7 @@ from __future__ import annotations
 
 import math
 import operator
+import struct
 from typing import (
     Any,
     Callable,
@@ -26,11 +27,14 @@ from ._errors import Closed, Code, Error
 from ._reading import Default, Reader, Rows
 from ._snapshot import FIRST_ROOM, GREATEST_ROOM, Snapshot
 from ._statistics import Statistics, statistics_of
-from ._values import Row, Value
+from ._values import Row, Value, word_of
 
 Itself = TypeVar("Itself", bound="Store")
 Function = Callable[[Optional[Value]], Optional[Value]]
 Keep = Callable[[int, Value], object]
+AnyRows = Union[Mapping[int, Optional[Value]], Iterable[Tuple[int, Optional[Value]]]]
+Bounds = Tuple[Optional[int], Optional[int]]
+Counts = Union[Mapping[Bounds, int], Iterable[Tuple[Bounds, int]]]
 
 _NO_DEFAULT = object()
 _GREATEST_OPTION = 2**31 - 1
@@ -45,6 +49,9 @@ _MILLISECONDS = 1_000  # of a second
 _AT_ONCE = -1
 _FOR_EVER = 2**63 - 1
 _NO_PATIENCE = -1
+
+# A range, and how many of its keys have a value, as the library has them.
+_COUNT = struct.Struct("=3Q")
 
 
 def _option(name: str, value: int, least: int) -> int:
@@ -247,6 +254,45 @@ class Store(core.Store, Reader):
         """
         return Batch(self)
 
+    def batch_if(self, expected: AnyRows, rows: AnyRows, counts: Counts = ()) -> bool:
+        """Writes all rows at one moment, if all that is expected is there at that moment. Whether
+        it is.
+
+        Rows are a mapping or pairs. Of what is expected, ``None`` stands for no value; of what is
+        written, it removes its key. ``counts`` tells how many keys of ranges, which are pairs of
+        ``start`` and ``stop``, have a value. So a thread reads, decides, and writes if all that it
+        read still stands. Without rows it only tests.
+
+        No other write runs while it tests, which costs a read of each key, and a visit of each key
+        of the ranges. It waits as a write does. ``ValueError`` if there are more rows than an epoch
+        of the store has; :class:`RunFull`, :class:`VersionsFull`, or :class:`Error` if memory ran
+        out. Nothing was written then.
+
+        >>> with Store() as store:
+        ...     store[1] = 10
+        ...     store.batch_if({1: 10, 2: None}, {1: 3, 2: 7}, {(0, 100): 1})
+        ...     store.batch_if({1: 10}, {1: None}), store.batch_if({1: 3, 2: 7}, {})
+        ...     list(store.scan())
+        True
+        (False, True)
+        [(1, 3), (2, 7)]
+        """
+        ranges = counts.items() if isinstance(counts, Mapping) else counts
+        packed = b"".join(
+            _COUNT.pack(*self._range(*bounds), word_of(keys)) for bounds, keys in ranges
+        )
+        try:
+            unmet = self._write_if(self._pack_all(expected), packed, self._pack_all(rows))
+        except Error as error:
+            if error.code != Code.BAD_BATCH:
+                raise
+            raise ValueError("a batch has at most as many writes as an epoch") from None
+        return unmet is None
+
+    def _pack_all(self, rows: AnyRows) -> bytes:
+        pairs = rows.items() if isinstance(rows, Mapping) else rows
+        return b"".join(self._pack(key, value) for key, value in pairs)
+
     # ---- Changes
 
     def add(self, key: int, by: int = 1) -> int:
@@ -373,22 +419,25 @@ class Store(core.Store, Reader):
         """
         return Snapshot(self)
 
-    def scan(self, start: Optional[int] = None, stop: Optional[int] = None) -> Rows:
+    def scan(
+        self, start: Optional[int] = None, stop: Optional[int] = None, reverse: bool = False
+    ) -> Rows:
         """A snapshot's iterator: the rows from ``start`` on and below ``stop``, all of one moment.
 
-        A row is a key and its value; they come by rising key. Without ``stop`` there is no upper
-        end. The scan opens a snapshot, and closes it behind the last row: a loop that writes as it
+        A row is a key and its value; they come by rising key, or by falling key, where each costs
+        more. Without ``stop`` there is no upper end. The scan opens a snapshot, and closes it behind the last row: a loop that writes as it
         reads may come to :class:`OwnSnapshot`, and :meth:`walk` is for that. A scan that is left
         before its end stays open until nothing refers to it any more, or until its ``close``.
 
         >>> with Store() as store:
         ...     for key in 20, 3, 7:
         ...         store[key] = 10 * key
-        ...     list(store.scan(3, 20)), list(store.scan(7))
-        ([(3, 30), (7, 70)], [(7, 70), (20, 200)])
+        ...     list(store.scan(3, 20)), list(store.scan(7, reverse=True))
+        ([(3, 30), (7, 70)], [(20, 200), (7, 70)])
         """
         first, last = self._range(start, stop)
-        return self._rows(self.snapshot(), first, last, FIRST_ROOM, GREATEST_ROOM, True)
+        rooms = FIRST_ROOM, GREATEST_ROOM
+        return self._rows(self.snapshot(), first, last, *rooms, True, bool(reverse))
 
     # ---- Each page's own moment
 

@@ -40,7 +40,7 @@ pub const OK: c_int = 0;
 /// The key has no value.
 pub const NOT_FOUND: c_int = 1;
 
-/// The value was kept as it was.
+/// Nothing was written: what is there does not fit the change or batch.
 pub const KEPT: c_int = 2;
 
 /// The scan has no row left.
@@ -203,6 +203,18 @@ pub struct PageEnd {
     pub more: bool,
 }
 
+/// A range, and how many of its keys are to have a value.
+#[repr(C)]
+#[derive(Clone, Copy, Debug, Default)]
+pub struct RangeCount {
+    /// The first key.
+    pub first: u64,
+    /// The last key, which is included.
+    pub last: u64,
+    /// How many keys.
+    pub keys: u64,
+}
+
 /// [`Options::merge`]: writes merge, and no thread does.
 pub const MERGE_IN_CALLS: c_int = 1;
 
@@ -331,6 +343,11 @@ unsafe extern "C" {
     /// Writes all rows at one moment.
     pub fn clsm_batch(caller: *mut Caller, rows: *const Row, count: usize) -> c_int;
 
+    /// Writes all rows at one moment, if what is expected is there at that moment.
+    pub fn clsm_batch_if(caller: *mut Caller, expected: *const Row, expected_count: usize,
+        counts: *const RangeCount, counts_count: usize, rows: *const Row, count: usize,
+        unmet_or_null: *mut usize) -> c_int;
+
     // ---- changes
 
     /// Adds to the word of the key.
@@ -350,12 +367,26 @@ unsafe extern "C" {
     /// The value of the key.
     pub fn clsm_get(caller: *mut Caller, key: u64, value_or_null: *mut Value) -> c_int;
 
+    /// The values of so many keys at one moment, each at the place of its key.
+    pub fn clsm_get_many(caller: *mut Caller, keys: *const u64, count: usize,
+        values: *mut Value) -> c_int;
+
     /// How many keys of the range have a value.
     pub fn clsm_count(caller: *mut Caller, first: u64, last: u64, keys: *mut u64) -> c_int;
 
     /// The first rows of the range by rising key, as many as there is room for.
     pub fn clsm_page(caller: *mut Caller, first: u64, last: u64, rows: *mut Row, room: usize,
         end: *mut PageEnd) -> c_int;
+
+    /// The last rows of the range by falling key, as many as there is room for.
+    pub fn clsm_page_down(caller: *mut Caller, last: u64, first: u64, rows: *mut Row, room: usize,
+        end: *mut PageEnd) -> c_int;
+
+    /// The row of the least key of the range that has a value.
+    pub fn clsm_first(caller: *mut Caller, first: u64, last: u64, row: *mut Row) -> c_int;
+
+    /// The row of the greatest key of the range that has a value.
+    pub fn clsm_last(caller: *mut Caller, first: u64, last: u64, row: *mut Row) -> c_int;
 
     // ---- snapshots
 
@@ -378,6 +409,10 @@ unsafe extern "C" {
     pub fn clsm_snapshot_get(snapshot: *mut Snapshot, key: u64,
         value_or_null: *mut Value) -> c_int;
 
+    /// As [`clsm_get_many`], of the snapshot's map.
+    pub fn clsm_snapshot_get_many(snapshot: *mut Snapshot, keys: *const u64, count: usize,
+        values: *mut Value) -> c_int;
+
     /// As [`clsm_count`], of the snapshot's map.
     pub fn clsm_snapshot_count(snapshot: *mut Snapshot, first: u64, last: u64,
         keys: *mut u64) -> c_int;
@@ -385,6 +420,18 @@ unsafe extern "C" {
     /// As [`clsm_page`], of the snapshot's map.
     pub fn clsm_snapshot_page(snapshot: *mut Snapshot, first: u64, last: u64, rows: *mut Row,
         room: usize, end: *mut PageEnd) -> c_int;
+
+    /// As [`clsm_page_down`], of the snapshot's map.
+    pub fn clsm_snapshot_page_down(snapshot: *mut Snapshot, last: u64, first: u64, rows: *mut Row,
+        room: usize, end: *mut PageEnd) -> c_int;
+
+    /// As [`clsm_first`], of the snapshot's map.
+    pub fn clsm_snapshot_first(snapshot: *mut Snapshot, first: u64, last: u64,
+        row: *mut Row) -> c_int;
+
+    /// As [`clsm_last`], of the snapshot's map.
+    pub fn clsm_snapshot_last(snapshot: *mut Snapshot, first: u64, last: u64,
+        row: *mut Row) -> c_int;
 
     // ---- scans
 

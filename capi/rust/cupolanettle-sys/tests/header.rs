@@ -205,12 +205,13 @@ macro_rules! layout {
 }
 
 #[rustfmt::skip]
-fn layouts() -> [Layout; 6] {
+fn layouts() -> [Layout; 7] {
     [
         layout!(clsm_value, Value, length, words),
         layout!(clsm_row, Row, key, value),
         layout!(clsm_changed, Changed, before, after),
         layout!(clsm_page_end, PageEnd, rows, next, more),
+        layout!(clsm_range_count, RangeCount, first, last, keys),
         layout!(clsm_options, Options, keys, epoch, patience, merge, versions, wait, zero),
         layout!(clsm_statistics, Statistics,
             bytes, callers, snapshots, scans, oldest_time, oldest_age, clock, epoch_writes,

@@ -1,6 +1,7 @@
 //! Callers.
 mod batches;
 mod changes;
+mod many;
 mod rows;
 mod walks;
 
@@ -388,7 +389,8 @@ impl Caller {
     /// ```
     #[doc(alias("scan", "limit"))]
     pub fn page(&self, keys: impl RangeBounds<u64>, most: usize) -> Result<Page, Memory> {
-        read_page(&self.handle, Keys::of(&keys), most)
+        let keys = Keys::of(&keys);
+        read_page(most, |room, rows| self.handle.page(keys, room, rows))
     }
 
     // ---- snapshots

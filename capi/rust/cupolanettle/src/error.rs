@@ -3,6 +3,7 @@ mod conversions;
 mod texts;
 
 use crate::change::Kept;
+use crate::conditions::Unmet;
 use crate::library::{unexpected, Code};
 use cupolanettle_sys as raw;
 
@@ -140,6 +141,31 @@ pub enum BatchError {
     /// It has no write.
     Empty,
     /// It has more writes than an [epoch](crate::Options::epoch).
+    TooLong,
+    /// Memory ran out. The same call may succeed if it is made again.
+    Memory,
+    /// The writes were refused.
+    Refused(Refused),
+}
+
+/// Why a batch with conditions was not made. Nothing was written.
+///
+/// ```
+/// use cupolanettle::{Batch, BatchIfError, Conditions, Error, Options};
+///
+/// let store = Options::new().keys(1_000).epoch(4).open()?;
+/// let caller = store.caller()?;
+/// let batch: Batch = (0..5).map(|key| (key, 0)).collect();
+/// let refused = caller.batch_if(&Conditions::new(), &batch);
+/// assert_eq!(refused, Err(BatchIfError::TooLong));
+/// # Ok::<(), Error>(())
+/// ```
+#[non_exhaustive]
+#[derive(Clone, Copy, PartialEq, Eq, Hash, Debug)]
+pub enum BatchIfError {
+    /// A condition does not hold.
+    Unmet(Unmet),
+    /// The batch has more writes than an [epoch](crate::Options::epoch).
     TooLong,
     /// Memory ran out. The same call may succeed if it is made again.
     Memory,
@@ -374,6 +400,8 @@ pub enum Error {
     Refused(Refused),
     /// A change did not fit the value of its key.
     Kept(Kept),
+    /// A condition of a batch did not hold.
+    Unmet(Unmet),
     /// A batch had no write, or too many.
     Batch(BatchError),
     /// A write that never waits was not made; it was not refused.

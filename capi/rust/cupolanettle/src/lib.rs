@@ -163,6 +163,8 @@
 //! `get_mut`, `iter_mut` | [`Caller::update`]; a [`Caller::walk`] that writes each row
 //! `entry`, `or_insert_with` | [`Caller::update`], [`Caller::get_or_insert_with`]
 //! `range`, `iter` | [`Caller::range`], [`Snapshot::iter`]: rows of one moment; [`Caller::walk`] for others
+//! `rev`, `last_key_value` | those of a [`Range`]; [`Caller::page_down`]; [`Caller::last_key_value`]
+//! `RocksDB`'s `multi_get`, etcd's `Txn` | [`Caller::get_many`], [`Caller::batch_if`]
 //! `len` | [`Caller::count`], which visits the keys
 //! `extend`, `collect` | those of a [`Batch`], at most as long as an epoch
 //! `clear`, `retain` | [`Caller::clear`], [`Caller::retain`], which are not one moment
@@ -188,6 +190,7 @@ mod batch;
 mod caller;
 mod change;
 pub mod codec;
+mod conditions;
 mod error;
 mod library;
 mod pool;
@@ -202,9 +205,10 @@ mod walk;
 pub use batch::Batch;
 pub use caller::Caller;
 pub use change::{Changed, Kept};
+pub use conditions::{Conditions, Unmet};
 pub use error::{
-    BadBytes, BadValue, BatchError, ChangeError, CopyError, Error, Memory, NoSeat, OpenError,
-    Refused, RetainError, TryError, Unseen,
+    BadBytes, BadValue, BatchError, BatchIfError, ChangeError, CopyError, Error, Memory, NoSeat,
+    OpenError, Refused, RetainError, TryError, Unseen,
 };
 pub use pool::{Pool, PooledCaller};
 pub use range::{Page, Range};

@@ -117,6 +117,7 @@ type Close<K> = unsafe extern "C" fn(*mut K);
 type Number<K> = unsafe extern "C" fn(*const K) -> c_uint;
 type TimeOf<K> = unsafe extern "C" fn(*const K) -> u64;
 type Get<K> = unsafe extern "C" fn(*mut K, u64, *mut raw::Value) -> Code;
+type GetMany<K> = unsafe extern "C" fn(*mut K, *const u64, usize, *mut raw::Value) -> Code;
 type Count<K> = unsafe extern "C" fn(*mut K, u64, u64, *mut u64) -> Code;
 type Page<K> =
     unsafe extern "C" fn(*mut K, u64, u64, *mut raw::Row, usize, *mut raw::PageEnd) -> Code;
@@ -129,8 +130,10 @@ pub(crate) trait Kind: Sized {
     const NUMBER: Number<Self>;
     const TIME: TimeOf<Self>;
     const GET: Get<Self>;
+    const GET_MANY: GetMany<Self>;
     const COUNT: Count<Self>;
     const PAGE: Page<Self>;
+    const PAGE_DOWN: Page<Self>;
 }
 
 impl Kind for raw::Caller {
@@ -139,8 +142,10 @@ impl Kind for raw::Caller {
     const NUMBER: Number<Self> = raw::clsm_number;
     const TIME: TimeOf<Self> = raw::clsm_time;
     const GET: Get<Self> = raw::clsm_get;
+    const GET_MANY: GetMany<Self> = raw::clsm_get_many;
     const COUNT: Count<Self> = raw::clsm_count;
     const PAGE: Page<Self> = raw::clsm_page;
+    const PAGE_DOWN: Page<Self> = raw::clsm_page_down;
 }
 
 impl Kind for raw::Snapshot {
@@ -149,8 +154,10 @@ impl Kind for raw::Snapshot {
     const NUMBER: Number<Self> = raw::clsm_snapshot_number;
     const TIME: TimeOf<Self> = raw::clsm_snapshot_time;
     const GET: Get<Self> = raw::clsm_snapshot_get;
+    const GET_MANY: GetMany<Self> = raw::clsm_snapshot_get_many;
     const COUNT: Count<Self> = raw::clsm_snapshot_count;
     const PAGE: Page<Self> = raw::clsm_snapshot_page;
+    const PAGE_DOWN: Page<Self> = raw::clsm_snapshot_page_down;
 }
 
 /// An open handle, which goes from thread to thread, but is never shared.
@@ -219,6 +226,35 @@ impl<K: Kind> Handle<K> {
         }
     }
 
+    /// Reads each key at one time, and writes its value at the same place.
+    fn get_all(&self, keys: &[u64], values: &mut [MaybeUninit<raw::Value>]) {
+        assert_eq!(keys.len(), values.len());
+        let into = values.as_mut_ptr().cast();
+        // SAFETY: as in `number`, the keys are one slice, and there is room for as many values.
+        let code = unsafe { K::GET_MANY(self.place(), keys.as_ptr(), keys.len(), into) };
+        if code != raw::OK {
+            unexpected(code);
+        }
+    }
+
+    /// The values of the keys at one time, without memory.
+    pub(crate) fn get_array<const N: usize>(&self, keys: [u64; N]) -> [Option<Value>; N] {
+        let mut found = [MaybeUninit::uninit(); N];
+        self.get_all(&keys, &mut found);
+        // SAFETY: the call has written a value at the place of each key.
+        found.map(|value| Value::from_raw(unsafe { value.assume_init() }))
+    }
+
+    /// The values of the keys at one time.
+    pub(crate) fn get_many(&self, keys: &[u64]) -> Result<Vec<raw::Value>, Memory> {
+        let mut found = Vec::new();
+        found.try_reserve_exact(keys.len()).map_err(|_| Memory)?;
+        self.get_all(keys, &mut found.spare_capacity_mut()[..keys.len()]);
+        // SAFETY: the call has written a value at the place of each key.
+        unsafe { found.set_len(keys.len()) };
+        Ok(found)
+    }
+
     pub(crate) fn count(&self, keys: Keys) -> u64 {
         let mut count = 0;
         // SAFETY: as in `number`, and `count` is of this frame.
@@ -231,10 +267,30 @@ impl<K: Kind> Handle<K> {
 
     /// Reads the first rows of the range, at most so many, in place of those that the vector has.
     /// Answers the key of the next one, if there are more.
-    #[allow(clippy::cast_possible_truncation)] // no more rows than there was room for
     pub(crate) fn page(
         &self,
         keys: Keys,
+        most: usize,
+        rows: &mut Vec<raw::Row>,
+    ) -> Result<Option<u64>, Memory> {
+        self.page_by(K::PAGE, [keys.first, keys.last], most, rows)
+    }
+
+    /// The same by falling key: the last rows of the range.
+    pub(crate) fn page_down(
+        &self,
+        keys: Keys,
+        most: usize,
+        rows: &mut Vec<raw::Row>,
+    ) -> Result<Option<u64>, Memory> {
+        self.page_by(K::PAGE_DOWN, [keys.last, keys.first], most, rows)
+    }
+
+    #[allow(clippy::cast_possible_truncation)] // no more rows than there was room for
+    fn page_by(
+        &self,
+        call: Page<K>,
+        [from, to]: [u64; 2],
         most: usize,
         rows: &mut Vec<raw::Row>,
     ) -> Result<Option<u64>, Memory> {
@@ -244,7 +300,7 @@ impl<K: Kind> Handle<K> {
         let (into, told) = (rows.as_mut_ptr(), &raw mut end);
         // SAFETY: as in `number`, the vector has room for so many rows, and `end` is of this
         // frame.
-        let code = unsafe { K::PAGE(self.place(), keys.first, keys.last, into, most, told) };
+        let code = unsafe { call(self.place(), from, to, into, most, told) };
         match code {
             // SAFETY: a call that answers so has written so many rows, for which there was room.
             raw::OK => unsafe { rows.set_len(end.rows as usize) },
@@ -321,6 +377,25 @@ impl Handle<raw::Caller> {
     pub(crate) fn batch(&self, rows: &[raw::Row]) -> Code {
         // SAFETY: as in `number`, and the rows are one slice.
         unsafe { raw::clsm_batch(self.place(), rows.as_ptr(), rows.len()) }
+    }
+
+    /// Writes the rows if the conditions hold; else the second is the place of the first that does
+    /// not.
+    pub(crate) fn batch_if(
+        &self,
+        expected: &[raw::Row],
+        counts: &[raw::RangeCount],
+        rows: &[raw::Row],
+    ) -> (Code, usize) {
+        let mut unmet = 0;
+        let (at, count) = (rows.as_ptr(), rows.len());
+        let (has, of) = (expected.as_ptr(), counts.as_ptr());
+        let (first, others) = (expected.len(), counts.len());
+        // SAFETY: as in `number`, all three are slices, and `unmet` is of this frame.
+        let code = unsafe {
+            raw::clsm_batch_if(self.place(), has, first, of, others, at, count, &raw mut unmet)
+        };
+        (code, unmet)
     }
 
     #[inline]

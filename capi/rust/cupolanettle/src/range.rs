@@ -46,7 +46,7 @@ impl Keys {
     }
 }
 
-/// The first rows of a range.
+/// The first rows of a range, or the last ones.
 ///
 /// ```
 /// # use cupolanettle::{Error, Options};
@@ -63,7 +63,7 @@ impl Keys {
 #[non_exhaustive]
 #[derive(Clone, PartialEq, Eq, Hash, Debug, Default)]
 pub struct Page {
-    /// Keys with their values, by rising key.
+    /// Keys with their values, by rising key; of a page downwards, by falling key.
     pub rows: Vec<(u64, Value)>,
     /// The key of the row behind them, if there are more.
     pub next: Option<u64>,
@@ -82,6 +82,25 @@ pub(crate) fn first_row<K: Kind>(handle: &Handle<K>) -> Result<Option<(u64, Valu
     Ok(read.first().and_then(pair))
 }
 
+/// The last row of all, if there is one.
+pub(crate) fn last_row<K: Kind>(handle: &Handle<K>) -> Result<Option<(u64, Value)>, Memory> {
+    let mut read = Vec::new();
+    handle.page_down(Keys::of(&..), 1, &mut read)?;
+    Ok(read.first().and_then(pair))
+}
+
+/// The values of the keys at one time.
+pub(crate) fn read_many<K: Kind>(
+    handle: &Handle<K>,
+    keys: &[u64],
+) -> Result<Vec<Option<Value>>, Memory> {
+    let read = handle.get_many(keys)?;
+    let mut values = Vec::new();
+    values.try_reserve_exact(read.len()).map_err(|_| Memory)?;
+    values.extend(read.into_iter().map(Value::from_raw));
+    Ok(values)
+}
+
 /// Whether there is no row. Where no memory is left to read one, the rows are counted.
 pub(crate) fn is_empty<K: Kind>(handle: &Handle<K>) -> bool {
     match first_row(handle) {
@@ -92,15 +111,14 @@ pub(crate) fn is_empty<K: Kind>(handle: &Handle<K>) -> bool {
 
 /// Reads a page of at most so many rows: anew with more room while there are more rows, so that it
 /// takes memory for the rows that there are. The last reading is the answer.
-pub(crate) fn read_page<K: Kind>(
-    handle: &Handle<K>,
-    keys: Keys,
-    most: usize,
-) -> Result<Page, Memory> {
+pub(crate) fn read_page<F>(most: usize, page: F) -> Result<Page, Memory>
+where
+    F: Fn(usize, &mut Vec<raw::Row>) -> Result<Option<u64>, Memory>,
+{
     let mut read = Vec::new();
     let mut room = most.min(FIRST_ROOM);
     let next = loop {
-        let next = handle.page(keys, room, &mut read)?;
+        let next = page(room, &mut read)?;
         if next.is_none() || room == most {
             break next;
         }
@@ -113,6 +131,7 @@ pub(crate) fn read_page<K: Kind>(
 }
 
 /// An iterator over the rows of a range by rising key, as they are at one moment: over a snapshot.
+/// From its end it goes by falling key, as [`rev`](Iterator::rev) does, and a row costs more there.
 ///
 /// [`Snapshot::range`] lends it a snapshot, and [`Caller::range`](crate::Caller::range) gives it
 /// one of its own, which is closed when the iterator is dropped, wherever that is. A
@@ -129,21 +148,51 @@ pub(crate) fn read_page<K: Kind>(
 /// caller.put(8, 80)?;
 /// assert_eq!(rows.next().transpose()?, Some((7, 70.into())));
 /// assert_eq!(rows.next().transpose()?, None);
+///
+/// let newest = caller.range(..)?.rev().take(1).collect::<Result<Vec<_>, _>>()?;
+/// assert_eq!(newest, [(8, 80.into())]);
 /// # Ok::<(), Error>(())
 /// ```
 #[doc(alias("Iter", "Iterator", "Cursor", "Scan"))]
 pub struct Range<S> {
     snapshot: S,
-    /// What is left behind the rows that were read.
+    /// What is left between the rows that were read from both ends.
     left: Option<Keys>,
-    /// The rows that were read last, and the place of the next one among them.
-    rows: Vec<raw::Row>,
+    front: Rows,
+    back: Rows,
+}
+
+/// The rows that were read last from one end, and the place of the next one among them.
+#[derive(Default)]
+struct Rows {
+    read: Vec<raw::Row>,
     at: usize,
+}
+
+impl Rows {
+    fn len(&self) -> usize {
+        self.read.len() - self.at
+    }
+
+    /// The next one.
+    fn take(&mut self) -> Option<(u64, Value)> {
+        let row = self.read.get(self.at).and_then(pair)?;
+        self.at += 1;
+        Some(row)
+    }
+
+    /// The last one, which the other end comes to first.
+    fn take_last(&mut self) -> Option<(u64, Value)> {
+        if self.len() == 0 {
+            return None;
+        }
+        self.read.pop().as_ref().and_then(pair)
+    }
 }
 
 impl<S: Borrow<Snapshot>> Range<S> {
     pub(crate) fn new(snapshot: S, keys: Keys) -> Range<S> {
-        Range { snapshot, left: Some(keys), rows: Vec::new(), at: 0 }
+        Range { snapshot, left: Some(keys), front: Rows::default(), back: Rows::default() }
     }
 
     /// The time at which it reads.
@@ -161,14 +210,27 @@ impl<S: Borrow<Snapshot>> Range<S> {
         self.snapshot.borrow().time()
     }
 
-    /// Reads the next rows, if some are left.
+    /// Reads the next rows at the front, if some are left.
     fn read_on(&mut self) -> Result<(), Memory> {
-        let Some(keys) = self.left else {
+        let Some(keys) = self.left.filter(|_| self.front.len() == 0) else {
             return Ok(());
         };
-        self.at = 0;
-        let next = self.snapshot.borrow().handle.page(keys, room_for(keys), &mut self.rows)?;
+        self.front.at = 0;
+        let handle = &self.snapshot.borrow().handle;
+        let next = handle.page(keys, room_for(keys), &mut self.front.read)?;
         self.left = next.map(|first| Keys { first, ..keys });
+        Ok(())
+    }
+
+    /// Reads the next rows at the back, if some are left.
+    fn read_back(&mut self) -> Result<(), Memory> {
+        let Some(keys) = self.left.filter(|_| self.back.len() == 0) else {
+            return Ok(());
+        };
+        self.back.at = 0;
+        let handle = &self.snapshot.borrow().handle;
+        let next = handle.page_down(keys, room_for(keys), &mut self.back.read)?;
+        self.left = next.map(|last| Keys { last, ..keys });
         Ok(())
     }
 }
@@ -183,18 +245,24 @@ impl<S: Borrow<Snapshot>> Iterator for Range<S> {
     type Item = Result<(u64, Value), Memory>;
 
     fn next(&mut self) -> Option<Self::Item> {
-        if self.at == self.rows.len() {
-            if let Err(memory) = self.read_on() {
-                return Some(Err(memory));
-            }
+        if let Err(memory) = self.read_on() {
+            return Some(Err(memory));
         }
-        let row = self.rows.get(self.at).and_then(pair)?;
-        self.at += 1;
-        Some(Ok(row))
+        self.front.take().or_else(|| self.back.take_last()).map(Ok)
     }
 
     fn size_hint(&self) -> (usize, Option<usize>) {
-        (self.rows.len() - self.at, None)
+        let read = self.front.len() + self.back.len();
+        (read, if self.left.is_none() { Some(read) } else { None })
+    }
+}
+
+impl<S: Borrow<Snapshot>> DoubleEndedIterator for Range<S> {
+    fn next_back(&mut self) -> Option<Self::Item> {
+        if let Err(memory) = self.read_back() {
+            return Some(Err(memory));
+        }
+        self.back.take().or_else(|| self.front.take_last()).map(Ok)
     }
 }
 

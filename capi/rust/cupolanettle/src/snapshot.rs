@@ -1,7 +1,9 @@
 //! Snapshots.
 use crate::error::{CopyError, Memory};
 use crate::library::Handle;
-use crate::range::{first_row, is_empty, read_page, Keys, Page, Range, ROWS_AT_A_TIME};
+use crate::range::{
+    first_row, is_empty, last_row, read_many, read_page, Keys, Page, Range, ROWS_AT_A_TIME,
+};
 use crate::store::Store;
 use crate::value::Value;
 use crate::Time;
@@ -96,6 +98,44 @@ impl Snapshot {
         self.handle.get(key)
     }
 
+    /// The values that the keys had, each at the place of its key. It takes memory for them.
+    ///
+    /// # Errors
+    ///
+    /// [`Memory`].
+    ///
+    /// ```
+    /// # use cupolanettle::{Error, Options};
+    /// # let store = Options::new().keys(1_000).open()?;
+    /// # let caller = store.caller()?;
+    /// caller.put(7, 70)?;
+    /// let snapshot = caller.snapshot()?;
+    /// caller.remove(7)?;
+    /// assert_eq!(snapshot.get_many(&[8, 7])?, [None, Some(70.into())]);
+    /// # Ok::<(), Error>(())
+    /// ```
+    #[doc(alias("multi_get", "get_all"))]
+    pub fn get_many(&self, keys: &[u64]) -> Result<Vec<Option<Value>>, Memory> {
+        read_many(&self.handle, keys)
+    }
+
+    /// As [`get_many`](Snapshot::get_many), of an array, without memory.
+    ///
+    /// ```
+    /// # use cupolanettle::{Error, Options};
+    /// # let store = Options::new().keys(1_000).open()?;
+    /// # let caller = store.caller()?;
+    /// caller.put(7, 70)?;
+    /// let snapshot = caller.snapshot()?;
+    /// let [one, other] = snapshot.get_array([8, 7]);
+    /// assert_eq!((one, other), (None, Some(70.into())));
+    /// # Ok::<(), Error>(())
+    /// ```
+    #[must_use]
+    pub fn get_array<const N: usize>(&self, keys: [u64; N]) -> [Option<Value>; N] {
+        self.handle.get_array(keys)
+    }
+
     /// Whether the key had a value. It costs a [`get`](Snapshot::get), less the copy of the value.
     ///
     /// ```
@@ -155,6 +195,30 @@ impl Snapshot {
         first_row(&self.handle)
     }
 
+    /// The row of the greatest key, or `None` if no key had a value. It is a
+    /// [`page_down`](Snapshot::page_down) of one row.
+    ///
+    /// # Errors
+    ///
+    /// [`Memory`].
+    ///
+    /// ```
+    /// # use cupolanettle::{Error, Options};
+    /// # let store = Options::new().keys(1_000).open()?;
+    /// # let caller = store.caller()?;
+    /// for key in [8, 3, 5] {
+    ///     caller.put(key, 10 * key)?;
+    /// }
+    /// let snapshot = caller.snapshot()?;
+    /// caller.remove(8)?;
+    /// assert_eq!(snapshot.last_key_value()?, Some((8, 80.into())));
+    /// # Ok::<(), Error>(())
+    /// ```
+    #[doc(alias("last", "back", "max", "seek_to_last"))]
+    pub fn last_key_value(&self) -> Result<Option<(u64, Value)>, Memory> {
+        last_row(&self.handle)
+    }
+
     /// How many keys of the range had a value. It walks all of them and needs no memory.
     ///
     /// ```
@@ -200,7 +264,36 @@ impl Snapshot {
     /// # Ok::<(), Error>(())
     /// ```
     pub fn page(&self, keys: impl RangeBounds<u64>, most: usize) -> Result<Page, Memory> {
-        read_page(&self.handle, Keys::of(&keys), most)
+        let keys = Keys::of(&keys);
+        read_page(most, |room, rows| self.handle.page(keys, room, rows))
+    }
+
+    /// The last rows of the range by falling key, at most so many, as they are in this snapshot.
+    /// The next page ends at the key that is told as the next one. It takes time and memory as
+    /// [`Caller::page_down`](crate::Caller::page_down).
+    ///
+    /// # Errors
+    ///
+    /// [`Memory`].
+    ///
+    /// ```
+    /// # use cupolanettle::{Error, Options};
+    /// # let store = Options::new().keys(1_000).open()?;
+    /// # let caller = store.caller()?;
+    /// # for key in 0..5 {
+    /// #     caller.put(key, 10 * key)?;
+    /// # }
+    /// let snapshot = caller.snapshot()?;
+    /// let page = snapshot.page_down(.., 2)?;
+    /// assert_eq!(page.rows, [(4, 40.into()), (3, 30.into())]);
+    /// let page = snapshot.page_down(..=page.next.unwrap(), 9)?;
+    /// assert_eq!((page.rows.len(), page.next), (3, None));
+    /// # Ok::<(), Error>(())
+    /// ```
+    #[doc(alias("prev", "reverse", "descending"))]
+    pub fn page_down(&self, keys: impl RangeBounds<u64>, most: usize) -> Result<Page, Memory> {
+        let keys = Keys::of(&keys);
+        read_page(most, |room, rows| self.handle.page_down(keys, room, rows))
     }
 
     /// An iterator over the rows of the range by rising key, as they are in this snapshot.

@@ -1,9 +1,10 @@
 //! All of them are errors, with their sources, and `?` turns each into [`Error`].
 use super::{
-    BadBytes, BadValue, BatchError, ChangeError, CopyError, Error, Memory, NoSeat, OpenError,
-    Refused, RetainError, TryError, Unseen,
+    BadBytes, BadValue, BatchError, BatchIfError, ChangeError, CopyError, Error, Memory, NoSeat,
+    OpenError, Refused, RetainError, TryError, Unseen,
 };
 use crate::change::Kept;
+use crate::conditions::Unmet;
 
 /// It stands for the error that it holds, whose text and source are its own.
 impl std::error::Error for Error {
@@ -12,6 +13,7 @@ impl std::error::Error for Error {
             Error::Open(error) => error.source(),
             Error::Refused(error) => error.source(),
             Error::Kept(error) => error.source(),
+            Error::Unmet(error) => error.source(),
             Error::Batch(error) => error.source(),
             Error::Try(error) => error.source(),
             Error::NoSeat(error) => error.source(),
@@ -39,6 +41,7 @@ macro_rules! causes {
 causes! {
     Refused => Refused,
     Kept => Kept,
+    Unmet => Unmet,
     NoSeat => NoSeat,
     Memory => Memory,
     BadValue => BadValue,
@@ -82,6 +85,45 @@ refusals! {
     TryError,
     RetainError,
     CopyError,
+}
+
+impl std::error::Error for BatchIfError {
+    fn source(&self) -> Option<&(dyn std::error::Error + 'static)> {
+        match self {
+            BatchIfError::Unmet(unmet) => Some(unmet),
+            BatchIfError::Refused(refused) => Some(refused),
+            _ => None,
+        }
+    }
+}
+
+impl From<Unmet> for BatchIfError {
+    fn from(unmet: Unmet) -> BatchIfError {
+        BatchIfError::Unmet(unmet)
+    }
+}
+
+impl From<Refused> for BatchIfError {
+    fn from(refused: Refused) -> BatchIfError {
+        BatchIfError::Refused(refused)
+    }
+}
+
+impl From<Memory> for BatchIfError {
+    fn from(_: Memory) -> BatchIfError {
+        BatchIfError::Memory
+    }
+}
+
+impl From<BatchIfError> for Error {
+    fn from(error: BatchIfError) -> Error {
+        match error {
+            BatchIfError::Unmet(unmet) => unmet.into(),
+            BatchIfError::TooLong => BatchError::TooLong.into(),
+            BatchIfError::Memory => Memory.into(),
+            BatchIfError::Refused(refused) => refused.into(),
+        }
+    }
 }
 
 impl From<OpenError> for Error {

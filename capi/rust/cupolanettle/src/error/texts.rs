@@ -1,10 +1,11 @@
 //! What errors say to people. Those that hold another one leave its text to that, which is their
 //! source.
 use super::{
-    BadBytes, BadValue, BatchError, ChangeError, CopyError, Error, Memory, NoSeat, OpenError,
-    Refused, RetainError, TryError, Unseen,
+    BadBytes, BadValue, BatchError, BatchIfError, ChangeError, CopyError, Error, Memory, NoSeat,
+    OpenError, Refused, RetainError, TryError, Unseen,
 };
 use crate::change::Kept;
+use crate::conditions::Unmet;
 use std::fmt;
 
 impl fmt::Display for OpenError {
@@ -59,6 +60,23 @@ impl fmt::Display for BatchError {
             BatchError::TooLong => f.write_str("the batch has more writes than an epoch"),
             BatchError::Memory => Memory.fmt(f),
             BatchError::Refused(_) => f.write_str("the batch was refused"),
+        }
+    }
+}
+
+impl fmt::Display for Unmet {
+    fn fmt(&self, f: &mut fmt::Formatter<'_>) -> fmt::Result {
+        write!(f, "condition {} of the batch does not hold", self.index)
+    }
+}
+
+impl fmt::Display for BatchIfError {
+    fn fmt(&self, f: &mut fmt::Formatter<'_>) -> fmt::Result {
+        match self {
+            BatchIfError::Unmet(_) => f.write_str("a condition of the batch does not hold"),
+            BatchIfError::TooLong => BatchError::TooLong.fmt(f),
+            BatchIfError::Memory => Memory.fmt(f),
+            BatchIfError::Refused(_) => f.write_str("the batch was refused"),
         }
     }
 }
@@ -130,6 +148,7 @@ impl fmt::Display for Error {
             Error::Open(error) => error.fmt(f),
             Error::Refused(error) => error.fmt(f),
             Error::Kept(error) => error.fmt(f),
+            Error::Unmet(error) => error.fmt(f),
             Error::Batch(error) => error.fmt(f),
             Error::Try(error) => error.fmt(f),
             Error::NoSeat(error) => error.fmt(f),
