@@ -426,9 +426,9 @@ impl Caller {
     /// An iterator over the rows of the range by rising key, as they are at one moment: over a
     /// snapshot.
     ///
-    /// It has that [`snapshot`](Caller::snapshot) to itself, and reads up to 64 rows at a time. A
-    /// long loop that writes as it reads takes a [`walk`](Caller::walk): here its writes may be
-    /// [refused](Refused::OwnSnapshot), as the snapshot keeps old versions.
+    /// It has that [`snapshot`](Caller::snapshot) to itself, and reads 64 rows at first, then up to
+    /// 512 at a time. A long loop that writes as it reads takes a [`walk`](Caller::walk): here its
+    /// writes may be [refused](Refused::OwnSnapshot), as the snapshot keeps old versions.
     ///
     /// # Errors
     ///

@@ -10,13 +10,17 @@ use std::fmt;
 use std::iter::FusedIterator;
 use std::ops::{Bound, RangeBounds};
 
-/// The most rows that an iterator reads at a time.
+/// So many rows an iterator reads at first, and a loop over pages each time.
 pub(crate) const ROWS_AT_A_TIME: usize = 64;
+
+/// The most rows that an iterator reads at a time.
+const MOST_AT_A_TIME: usize = 512;
 
 /// A page is read with room for so many rows at first.
 const FIRST_ROOM: usize = 1_024;
 
-/// It is read anew with so many times the room while there are more rows.
+/// An iterator reads so many times as many rows the next time; and a page is read anew with so many
+/// times the room while there are more rows.
 const GROWTH: usize = 4;
 
 /// The keys from the first one to the last one, both included; none if the first is above the
@@ -167,9 +171,19 @@ pub struct Range<S> {
 struct Rows {
     read: Vec<raw::Row>,
     at: usize,
+    /// There was room for so many.
+    room: usize,
 }
 
 impl Rows {
+    /// The room to read the next rows of this range, in which there may be few keys: more as the
+    /// iterator goes on, since each reading begins with a search.
+    fn next_room(&self, keys: Keys) -> usize {
+        let others = usize::try_from(keys.last.saturating_sub(keys.first)).unwrap_or(usize::MAX);
+        let room = self.room.saturating_mul(GROWTH).clamp(ROWS_AT_A_TIME, MOST_AT_A_TIME);
+        room.min(others.saturating_add(1))
+    }
+
     fn len(&self) -> usize {
         self.read.len() - self.at
     }
@@ -215,9 +229,10 @@ impl<S: Borrow<Snapshot>> Range<S> {
         let Some(keys) = self.left.filter(|_| self.front.len() == 0) else {
             return Ok(());
         };
+        let room = self.front.next_room(keys);
         self.front.at = 0;
-        let handle = &self.snapshot.borrow().handle;
-        let next = handle.page(keys, room_for(keys), &mut self.front.read)?;
+        let next = self.snapshot.borrow().handle.page(keys, room, &mut self.front.read)?;
+        self.front.room = room;
         self.left = next.map(|first| Keys { first, ..keys });
         Ok(())
     }
@@ -227,18 +242,13 @@ impl<S: Borrow<Snapshot>> Range<S> {
         let Some(keys) = self.left.filter(|_| self.back.len() == 0) else {
             return Ok(());
         };
+        let room = self.back.next_room(keys);
         self.back.at = 0;
-        let handle = &self.snapshot.borrow().handle;
-        let next = handle.page_down(keys, room_for(keys), &mut self.back.read)?;
+        let next = self.snapshot.borrow().handle.page_down(keys, room, &mut self.back.read)?;
+        self.back.room = room;
         self.left = next.map(|last| Keys { last, ..keys });
         Ok(())
     }
-}
-
-/// The room to read rows of this range, in which there may be few keys.
-fn room_for(keys: Keys) -> usize {
-    let others = usize::try_from(keys.last.saturating_sub(keys.first)).unwrap_or(usize::MAX);
-    ROWS_AT_A_TIME.min(others.saturating_add(1))
 }
 
 impl<S: Borrow<Snapshot>> Iterator for Range<S> {

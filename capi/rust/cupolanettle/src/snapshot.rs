@@ -298,7 +298,7 @@ impl Snapshot {
 
     /// An iterator over the rows of the range by rising key, as they are in this snapshot.
     ///
-    /// It reads up to 64 rows at a time. An item is [`Memory`] where memory ran out.
+    /// It reads 64 rows at first, then up to 512 at a time. An item is [`Memory`] where memory ran out.
     ///
     /// ```
     /// # use cupolanettle::{Error, Options};
