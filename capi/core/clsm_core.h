@@ -118,7 +118,7 @@ enum {
 
 /* The core defines this name, which changes with this header: with a core of another
  * interface, a program does not link. */
-#define CLSM_CORE_INTERFACE clsm_core_interface_16905e9960f1
+#define CLSM_CORE_INTERFACE clsm_core_interface_ad7f1ac94493
 extern const char CLSM_CORE_INTERFACE;
 
 /* The handle of a store: the callers and the merger that nobody has taken yet. */
@@ -342,6 +342,18 @@ uint32_t clsm_core_close_snapshot(clsm_core_caller *caller, clsm_core_time *answ
  * CLSM_CORE_NO_SNAPSHOT. */
 uint32_t clsm_core_get_at(clsm_core_caller *caller, const clsm_core_key *ask,
                           clsm_core_got *answer);
+
+/* Reads each of the keys at one time, which is the clock's, and writes its value at the same place
+ * of the values: a length of 0 says that the key has none. As many keys are read as there are
+ * values, or fewer, and the values behind these stay as they are. It answers CLSM_CORE_OK and that
+ * time, also where no key is read. It is never refused, and takes no memory. */
+uint32_t clsm_core_get_many(clsm_core_caller *caller, const clsm_core_key *keys, size_t count,
+                            clsm_core_value *values, size_t room, clsm_core_time *answer);
+
+/* Reads each of the keys below the time of the caller's open snapshot, as clsm_core_get_many.
+ * Refused with CLSM_CORE_NO_SNAPSHOT: the values stay as they are then. */
+uint32_t clsm_core_get_many_at(clsm_core_caller *caller, const clsm_core_key *keys, size_t count,
+                               clsm_core_value *values, size_t room, clsm_core_time *answer);
 
 /* Counts the keys of the range that have a value: below the time of the caller's open snapshot, or
  * else at a time of its own, which is the clock's. Answers CLSM_CORE_OK, that time and the number,
