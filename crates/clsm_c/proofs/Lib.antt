@@ -1,3 +1,4 @@
+mod Cut
 mod Dealt
 mod Exporting
 mod Filled

@@ -2,7 +2,7 @@
 -- of a caller does is said once, in `Promises.antt` of clsm_store: each contract here cites the
 -- promise of the caller's call, and says how C is told what came of that. A slot that is empty
 -- stays so, and its call answers `NO_HANDLE`.
-use Rattle.std.specs.Prelude.{◌≡◌, ℕ, ◌⊎◌, ◌<◌, ◌++◌, ◌∷◌, [], ⊤, true, false, List, Option, Some, None, Result, Ok, Err}
+use Rattle.std.specs.Prelude.{◌≡◌, ℕ, ◌⊎◌, ◌<◌, ◌++◌, ◌∷◌, [], ⊤, true, false, List, drop, length, map, take, Option, Some, None, Result, Ok, Err}
 use Rattle.clsm_model.specs.declared.config.Config.{Config}
 use Rattle.clsm_model.specs.declared.config.OpenError.{OpenError}
 use Rattle.clsm_model.specs.declared.config.OpenError.TheVariants.{Cells, Seats, Shards, Run, Memory, Patience}
@@ -13,7 +13,7 @@ use Rattle.clsm_model.specs.Config.{IsSound}
 use Rattle.clsm_model.specs.Right.{Member}
 use Rattle.clsm_store.specs.Changes.{Replaces}
 use Rattle.clsm_store.specs.Opening.{IsRefusal}
-use Rattle.clsm_store.specs.Promises.{FillsPage, TriesToChangeBy, TriesToWrite, TriesToWriteBatch}
+use Rattle.clsm_store.specs.Promises.{FillsPage, GetsMany, GetsManyAtIfOpen, TriesToChangeBy, TriesToWrite, TriesToWriteBatch}
 use Rattle.clsm_store.specs.declared.freezing.TryFroze.{TryFroze}
 use Rattle.clsm_store.specs.declared.freezing.TryFroze.TheVariants.{Busy as FreezeBusy, Done as FreezeDone, Waited as FreezeWaited}
 use Rattle.clsm_store.specs.declared.phase.NotFrozen.{NotFrozen}
@@ -45,6 +45,7 @@ use Rattle.clsm_c.specs.declared.types.CoreCode.{CoreCode}
 use Rattle.clsm_c.specs.declared.types.CoreCounted.{CoreCounted}
 use Rattle.clsm_c.specs.declared.types.CoreEntries.{CoreEntries}
 use Rattle.clsm_c.specs.declared.types.CoreGot.{CoreGot}
+use Rattle.clsm_c.specs.declared.types.CoreKey.{CoreKey}
 use Rattle.clsm_c.specs.declared.types.CorePaged.{CorePaged}
 use Rattle.clsm_c.specs.declared.types.CorePhase.{CorePhase}
 use Rattle.clsm_c.specs.declared.types.CoreRange.{CoreRange}
@@ -52,6 +53,7 @@ use Rattle.clsm_c.specs.declared.types.CoreReplacing.{CoreReplacing}
 use Rattle.clsm_c.specs.declared.types.CoreRow.{CoreRow}
 use Rattle.clsm_c.specs.declared.types.CoreSizes.{CoreSizes}
 use Rattle.clsm_c.specs.declared.types.CoreTime.{CoreTime}
+use Rattle.clsm_c.specs.declared.types.CoreValue.{CoreValue}
 use Rattle.clsm_c.specs.Opening.{AreHandles}
 use Rattle.clsm_c.specs.Values.{IsValue, TellsRow, TellsValue, row_pair}
 
@@ -195,6 +197,37 @@ Pages (Some old) ask before (Some new) after answer code =
     Told (FillsPage row_pair TellsRow old.seat new.seat ask.first ask.last before after) (TellsPage answer code)
 Pages None ask before None after answer code = (code ≡ NO_HANDLE) × (after ≡ before)
 Pages _ ask before _ after answer code = ⊥
+
+-- a read of many keys, with its time
+abbrev pub TellsTime : CoreTime → ℕ → ℕ → Type 0
+TellsTime answer code time = (code ≡ OK) × (answer.time ≡ time)
+
+-- the same below a snapshot, if one is open
+abbrev pub TellsTimeAt : CoreTime → ℕ → Option ℕ → Type 0
+TellsTimeAt answer code (Some time) = TellsTime answer code time
+TellsTimeAt answer code None = code ≡ NO_SNAPSHOT
+
+-- the keys that are asked for, as many as there are places for values
+abbrev pub keys_in : List CoreKey → List CoreValue → List ℕ
+keys_in keys values = take (length values) (map (λ ask. ask.key) keys)
+
+-- a call that fills these places, and leaves those behind them; where there is no caller, all are as
+-- before
+abbrev pub FillsValues : (SeatState → SeatState → List ℕ → List CoreValue → List CoreValue → Type 0) → Option SharedCaller → List CoreKey
+    → List CoreValue → Option SharedCaller → List CoreValue → ℕ → Type 0
+FillsValues Does (Some old) keys before (Some new) after code =
+    Does old.seat new.seat (keys_in keys before) (take (length keys) before) (take (length keys) after)
+    × (drop (length keys) after ≡ drop (length keys) before)
+FillsValues Does None keys before None after code = (code ≡ NO_HANDLE) × (after ≡ before)
+FillsValues Does _ keys before _ after code = ⊥
+
+-- get_many
+abbrev pub GetsValues : CoreTime → ℕ → SeatState → SeatState → List ℕ → List CoreValue → List CoreValue → Type 0
+GetsValues answer code old new keys before after = Told (GetsMany TellsValue old new keys after) (TellsTime answer code)
+
+-- get_many_at, if a snapshot is open
+abbrev pub GetsValuesAt : CoreTime → ℕ → SeatState → SeatState → List ℕ → List CoreValue → List CoreValue → Type 0
+GetsValuesAt answer code old new keys before after = Told (GetsManyAtIfOpen TellsValue old new keys before after) (TellsTimeAt answer code)
 
 -- ---- stores
 

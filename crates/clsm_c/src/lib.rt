@@ -15,7 +15,7 @@ ghost use Rattle.clsm_store.specs.Promises.{ClosesSnapshot, CountsRange, Gets, G
 ghost use Rattle.clsm_store.specs.Sweeping.{TrySweeps};
 ghost use Rattle.clsm_c.specs.Calls.{BatchesRows, ByCaller, ByMerger, LooksAtPhase, Opens, Pages, PutsRow, ReplacesValue, TakesCaller, TakesMerger};
 ghost use Rattle.clsm_c.specs.Calls.{TellsChange, TellsClosed, TellsCounted, TellsEntries, TellsFreeze, TellsGot, TellsGotAt, TellsOpened};
-ghost use Rattle.clsm_c.specs.Calls.{TellsSweep, TellsTry, Told};
+ghost use Rattle.clsm_c.specs.Calls.{FillsValues, GetsValues, GetsValuesAt, TellsSweep, TellsTry, Told};
 ghost use Rattle.clsm_c.specs.Lent.{both, bytes_of, left, lies};
 ghost use Rattle.clsm_c.specs.contracts.slots.CallerSlot.{the_row as caller_row};
 ghost use Rattle.clsm_c.specs.contracts.slots.MergerSlot.{the_row as merger_row};
@@ -24,6 +24,7 @@ ghost use types.Logic.{sem};
 
 mod calls;
 pub mod codes;
+mod many;
 mod opening;
 mod shared;
 mod slots;
@@ -280,6 +281,52 @@ pub unsafe extern "C" fn clsm_core_get_at(
         Told (GetsAtIfOpen before after ask.now.key) (TellsGotAt answer.new result)) old.caller new.caller result)) }
 {
     calls::get_at(unsafe { &mut *caller.cast::<CallerSlot>() }, ask, answer)
+}
+
+/// Reads each of the keys at one time, which is the clock's, and writes its value at the same place
+/// of the values: a length of 0 says that the key has none. As many keys are read as there are
+/// values, or fewer, and the values behind these stay as they are. It answers `OK` and that time,
+/// also where no key is read. It is never refused, and takes no memory.
+#[unsafe(no_mangle)]
+pub unsafe extern "C" fn clsm_core_get_many(
+    caller: *mut u8,
+    keys: &[CoreKey],
+    values: &mut [CoreValue],
+    answer: &mut CoreTime,
+) -> u32
+    ghost old: { CallerSlot }
+    requires* { sem 𝓛 (lies caller_row caller old) }
+    ensures* { sem 𝓛 (left caller_row caller (λ new.
+        FillsValues (GetsValues answer.new result) old.caller keys.now values.old new.caller values.new result)) }
+{
+    many::get_many(
+        unsafe { &mut *caller.cast::<CallerSlot>() },
+        keys,
+        values,
+        answer,
+    )
+}
+
+/// Reads each of the keys below the time of the caller's open snapshot, as `clsm_core_get_many`.
+/// Refused with `NO_SNAPSHOT`: the values stay as they are then.
+#[unsafe(no_mangle)]
+pub unsafe extern "C" fn clsm_core_get_many_at(
+    caller: *mut u8,
+    keys: &[CoreKey],
+    values: &mut [CoreValue],
+    answer: &mut CoreTime,
+) -> u32
+    ghost old: { CallerSlot }
+    requires* { sem 𝓛 (lies caller_row caller old) }
+    ensures* { sem 𝓛 (left caller_row caller (λ new.
+        FillsValues (GetsValuesAt answer.new result) old.caller keys.now values.old new.caller values.new result)) }
+{
+    many::get_many_at(
+        unsafe { &mut *caller.cast::<CallerSlot>() },
+        keys,
+        values,
+        answer,
+    )
 }
 
 /// Counts the keys of the range that have a value: below the time of the caller's open snapshot, or

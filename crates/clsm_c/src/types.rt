@@ -3,7 +3,7 @@
 ghost use Rattle.std.specs.Prelude.{◌≡◌, ◌⊎◌, ◌<◌, IfNone, IfOk, IfSome, OnErr, Some};
 ghost use Rattle.clsm_c.specs.Values.{IsValue, TellsRow, TellsValue, row_pair, row_told};
 
-use clsm_store::{Row, Sink, Value};
+use clsm_store::{Keyed, Row, Sink, Value, ValuePlace};
 
 /// A value: the first `length` of the words, of which there are one to eight; or no value, where
 /// that is 0. In an answer the words behind the length are 0.
@@ -177,6 +177,26 @@ impl Row for CoreRow {
     ghost always_ready = { λ row. tt };
 
     ghost is_taken = { λ before after pair reply taken. row_told after pair taken.0 taken.1 };
+}
+
+/// What C asks for has its key.
+impl Keyed for CoreKey {
+    ghost key = { λ ask. ask.key };
+
+    #[inline(always)]
+    fn key(&self) -> u64 {
+        self.key
+    }
+}
+
+/// A read of many keys leaves a value in its place, which is C's, or none.
+impl ValuePlace for CoreValue {
+    ghost tells = { TellsValue };
+
+    #[inline(always)]
+    fn take(&mut self, value: &Option<Value>) {
+        leave(value, self);
+    }
 }
 
 /// A value that C passed has more than eight words.
