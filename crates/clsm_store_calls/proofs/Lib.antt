@@ -20,3 +20,5 @@ pub mod ReadParts
 pub mod Staged
 pub mod Polls
 pub mod Beside
+pub mod SameRange
+pub mod Unmet
