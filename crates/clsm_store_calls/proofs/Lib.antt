@@ -22,3 +22,5 @@ pub mod Polls
 pub mod Beside
 pub mod SameRange
 pub mod Unmet
+pub mod AloneParts
+pub mod AloneCalls

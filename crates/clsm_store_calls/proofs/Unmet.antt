@@ -1,5 +1,6 @@
 -- Conditions, tested one after another.
-use Rattle.std.proofs.Common.{◌≡◌, ℕ, zero, suc, ◌+◌, ◌<◌, ◌∷◌, [], List, length, take, get_or, ap, refl, sym, subst, ◌∙◌, arith}
+use Rattle.std.proofs.Common.{◌≡◌, ℕ, zero, suc, ◌+◌, ◌<◌, ◌≤◌, ◌∷◌, [], List, length, take, get_or, ap, sym, subst, ◌∙◌, arith}
+use Rattle.std.proofs.Common.{Option, None, Some}
 use Rattle.std.proofs.lemmas.List.{get_or_append_left, take_more}
 use Rattle.std.specs.Prelude.{IsSomeAnd, slice_get}
 use Rattle.clsm_levels.proofs.Every.{every-append}
@@ -39,20 +40,33 @@ pub first_found : (h : History) (t : ℕ) (conditions : List Condition) (i : ℕ
 first_found h t conditions i d within all fails =
     record { before = all; unmet = there (λ condition. ¬ Holds h t condition) conditions i d within fails }
 
--- ---- as the past goes on
+-- ---- as the history goes on
 
-same_below : (a b : List Slot) (t : ℕ) → IsPrefix a b → t ≤ length a → AreSameBelow (plain a) (plain b) t
-same_below a b t begins le = λ u lt. ap (λ (l : List Slot). get_or l u Nothing) (sym begins.1) ∙ get_or_append_left a begins.0 Nothing u (omega arith)
+-- the slots begin the history's
+pub same_below : (a : List Slot) (h : History) (t : ℕ) → IsPrefix a h.slots → t ≤ length a → AreSameBelow (plain a) h t
+same_below a h t begins le = λ u lt.
+    ap (λ (l : List Slot). get_or l u Nothing) (sym begins.1) ∙ get_or_append_left a begins.0 Nothing u (omega arith)
 
-module _ (a b : List Slot) (t : ℕ) (begins : IsPrefix a b) (le : t ≤ length a) where
-  longer : (condition : Condition) → Holds (plain a) t condition → Holds (plain b) t condition
-  longer (Has key expected) holds = value-same (plain a) (plain b) key t (same_below a b t begins le) ∙ holds
-  longer (Counts lo hi keys) holds = record {
-    rows = holds.rows;
-    all = IsRange-same (plain a) (plain b) t lo hi holds.rows (same_below a b t begins le) holds.all;
-    counted = holds.counted;
-  }
+-- what a condition says depends on the slots below its time
+holds_same : (h h' : History) (t : ℕ) → AreSameBelow h h' t → (condition : Condition) → Holds h t condition → Holds h' t condition
+holds_same h h' t same (Has key expected) holds = value-same h h' key t same ∙ holds
+holds_same h h' t same (Counts lo hi keys) holds = record {
+  rows = holds.rows;
+  all = IsRange-same h h' t lo hi holds.rows same holds.all;
+  counted = holds.counted;
+}
 
-  pub all_longer : (conditions : List Condition) → AllHold (plain a) t conditions → AllHold (plain b) t conditions
-  all_longer [] all = tt
-  all_longer (c ∷ cs) all = (longer c all.0, all_longer cs all.1)
+pub all_same : (h h' : History) (t : ℕ) → AreSameBelow h h' t → (conditions : List Condition) → AllHold h t conditions → AllHold h' t conditions
+all_same h h' t same [] all = tt
+all_same h h' t same (c ∷ cs) all = (holds_same h h' t same c all.0, all_same h h' t same cs all.1)
+
+some_and : {P Q : Condition → Type 0} (o : Option Condition) → ((c : Condition) → P c → Q c) → IsSomeAnd o P → IsSomeAnd o Q
+some_and None f is = absurd is
+some_and (Some c) f is = f c is
+
+pub first_same : (h h' : History) (t : ℕ) → AreSameBelow h h' t → (conditions : List Condition) (i : ℕ) → IsFirstUnmet h t conditions i
+    → IsFirstUnmet h' t conditions i
+first_same h h' t same conditions i first = record {
+  before = all_same h h' t same (take i conditions) first.before;
+  unmet = some_and (slice_get conditions i) (λ c fails holds. fails (holds_same h' h t (λ u lt. sym (same u lt)) c holds)) first.unmet;
+}

@@ -1,6 +1,6 @@
 -- A batch with conditions at the words: in one hold of the lock alone a read, which tests the
 -- conditions, and behind it the members, staged one after another, and their record.
-use Rattle.std.specs.Prelude.{◌≡◌, ◌≢◌, ℕ, ◌+◌, ◌*◌, ◌<◌, ◌≤◌, ◌++◌, ◌∷◌, [], Bool, List, Option, cond, length, false, true, Result, Ok, Err, Some, None}
+use Rattle.std.specs.Prelude.{◌≡◌, ℕ, ◌+◌, ◌*◌, ◌<◌, ◌≤◌, ◌++◌, ◌∷◌, [], Bool, List, Option, cond, length, false, true, Result, Err, Some, None}
 use Rattle.clsm_model.specs.History.{IsBeginning, end_of, plain}
 use Rattle.clsm_model.specs.declared.record.CallRecord.{CallRecord}
 use Rattle.clsm_model.specs.declared.record.Deed.TheVariants.{Batch as Group}
@@ -40,12 +40,13 @@ records_of number t (m ∷ ms) = call_of number t (Group (m ∷ ms)) ∷ []
 
 -- ---- the call, as contracts of the store see it
 
--- In its one hold of the lock the seat looked at the clock, which stood at this time. It is not
--- below the due, and the seat knows all below it
+-- In its one hold of the lock the seat looked at the clock, which stood at this time, and has not
+-- looked at it again. The time is not below the due, and the seat knows all below it
 pub record ReadsAlone (old new : SeatState) (t : ℕ) : Type 0 where
   pub same : IsSameSeat old new
   pub snapshot : new.snapshot ≡ old.snapshot
   pub clock : new.tally.clock ≡ Some t
+  pub read : new.clock ≡ Some t
   pub above : old.due ≤ t
   pub reached : t ≤ end_of (known_by new)
 

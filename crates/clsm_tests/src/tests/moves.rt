@@ -127,16 +127,28 @@ fn conditions_are_tested_in_order(rt: HostRuntime) {
     assert_eq!(&rt; caller.try_batch_if(&[none], &[]), Ok(0));
     assert_eq!(&rt; caller.try_batch_if(&[none], &both), Ok(0));
     let unmet = BatchIfError::Unmet { index: 1, time: 2 };
-    assert_eq!(&rt; caller.batch_if(&rt, &[two, none, has(5, 0)], &both), Err(unmet));
+    assert_eq!(&rt;
+        caller.batch_if(&rt, &[two, none, has(5, 0)], &both),
+        Err(unmet)
+    );
     assert_eq!(&rt; caller.get(5).value, Some(value_of(50)));
     assert_eq!(&rt; caller.batch_if(&rt, &[two, has(7, 70)], &[]), Ok(2));
     let nine = [set(1, 1); 9];
     let long = TryBatchIfError::Refused(BatchIfError::TooLong);
     assert_eq!(&rt; caller.try_batch_if(&[none], &nine), Err(long));
-    assert_eq!(&rt; caller.batch_if(&rt, &[none], &[(1, Change::Keep)]), Err(BatchIfError::Keep));
+    assert_eq!(&rt;
+        caller.batch_if(&rt, &[none], &[(1, Change::Keep)]),
+        Err(BatchIfError::Keep)
+    );
     let full = BatchIfError::Full { time: 2 };
     assert_eq!(&rt; caller.batch_if(&rt, &[two], &nine[..7]), Err(full));
-    assert_eq!(&rt; caller.batch_if(&rt, &[none], &nine[..7]), Err(BatchIfError::Unmet { index: 0, time: 2 }));
+    assert_eq!(&rt;
+        caller.batch_if(&rt, &[none], &nine[..7]),
+        Err(BatchIfError::Unmet { index: 0, time: 2 })
+    );
     assert_eq!(&rt; caller.batch_if(&rt, &[two], &[(5, Change::Remove)]), Ok(2));
-    assert_eq!(&rt; caller.batch_if(&rt, &[Condition::Has(5, None)], &nine[..5]), Ok(3));
+    assert_eq!(&rt;
+        caller.batch_if(&rt, &[Condition::Has(5, None)], &nine[..5]),
+        Ok(3)
+    );
 }
