@@ -1,5 +1,5 @@
 //! What C expects becomes conditions.
-ghost use Rattle.std.specs.Prelude.{◌≡◌, [], IfErr, IfNone, IfOk, IfSome, List, ◌<◌, OnOk};
+ghost use Rattle.std.specs.Prelude.{◌≡◌, ◌<◌, [], List, IfErr, IfNone, IfOk, IfSome, OnOk};
 ghost use Rattle.clsm_c.specs.declared.types.CoreRow.{CoreRow as Row};
 ghost use Rattle.clsm_c.specs.Calls.{HasLong};
 ghost use Rattle.clsm_c.specs.Conditional.{AreConditions, IsExpected};
@@ -66,6 +66,6 @@ pub(crate) fn to_conditions(
     let mut conditions = expect_rows(alloc, rows)?;
     match expect_counts(&mut conditions, counts) {
         Ok(()) => Ok(conditions),
-        Err(AllocError) => Err(NoMembers::Memory),
+        Err(_) => Err(NoMembers::Memory),
     }
 }
