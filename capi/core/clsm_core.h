@@ -118,7 +118,7 @@ enum {
 
 /* The core defines this name, which changes with this header: with a core of another
  * interface, a program does not link. */
-#define CLSM_CORE_INTERFACE clsm_core_interface_many_by_hand
+#define CLSM_CORE_INTERFACE clsm_core_interface_fbde9d081e84
 extern const char CLSM_CORE_INTERFACE;
 
 /* The handle of a store: the callers and the merger that nobody has taken yet. */
@@ -219,6 +219,13 @@ typedef struct clsm_core_time {
     uint64_t time;
 } clsm_core_time;
 
+/* The time of a batch with conditions; and, where one does not hold, its place: counted from 0, the
+ * expected rows first and behind them the counts. */
+typedef struct clsm_core_unmet {
+    uint64_t time;
+    uint64_t index;
+} clsm_core_unmet;
+
 /* The time of a read, and what it found. */
 typedef struct clsm_core_got {
     uint64_t time;
@@ -256,12 +263,6 @@ typedef struct clsm_core_paged {
     uint64_t next;
     bool more;
 } clsm_core_paged;
-
-/* The time of a batch with conditions, and the place of the first one that does not hold. */
-typedef struct clsm_core_unmet {
-    uint64_t time;
-    uint64_t index;
-} clsm_core_unmet;
 
 /* ---- stores */
 
@@ -321,13 +322,16 @@ uint32_t clsm_core_try_remove(clsm_core_caller *caller, const clsm_core_key *ask
 uint32_t clsm_core_try_batch(clsm_core_caller *caller, const clsm_core_row *rows, size_t count,
                              clsm_core_time *answer);
 
-/* Writes the rows as clsm_core_try_batch does if all conditions hold at the batch's time: each key
- * of the expected rows has the row's value, or none where that is no value; and of each range so
- * many keys have a value. Answers CLSM_CORE_OK and the time of the first row; or CLSM_CORE_KEPT, the
- * clock's time, and the place of the first condition that does not hold at that time, the ranges
- * behind the rows: nothing was written then. With no row to write it answers CLSM_CORE_OK at a time
- * at which all conditions hold. Refused as clsm_core_try_batch, and with CLSM_CORE_BAD_VALUE if an
- * expected value has more than eight words. */
+/* Writes the rows as one batch, as clsm_core_try_batch, if each expected row has its value, or, if
+ * it has none, its key has none, and each count is the number of keys of its range that have a
+ * value: all of that at the batch's own time. Answers CLSM_CORE_OK and the time of the first row;
+ * with no row it writes nothing, and answers a time at which all that holds. It takes memory for
+ * what it is passed while it runs, and tries to take the lock once. Refused, in this order, with
+ * CLSM_CORE_MEMORY and CLSM_CORE_BAD_VALUE as there, for the expected rows first,
+ * CLSM_CORE_BAD_BATCH if there are more rows than an epoch has cells, CLSM_CORE_BUSY if the lock
+ * was not free, CLSM_CORE_KEPT, the clock's time and the place of the first that does not hold, and
+ * CLSM_CORE_FULL and the clock's time if the epoch has fewer timestamps left than there are rows:
+ * nothing was written then. */
 uint32_t clsm_core_try_batch_if(clsm_core_caller *caller, const clsm_core_row *expected,
                                 size_t expected_count, const clsm_core_range_count *counts,
                                 size_t counts_count, const clsm_core_row *rows, size_t count,
@@ -369,14 +373,15 @@ uint32_t clsm_core_close_snapshot(clsm_core_caller *caller, clsm_core_time *answ
 uint32_t clsm_core_get_at(clsm_core_caller *caller, const clsm_core_key *ask,
                           clsm_core_got *answer);
 
-/* Reads each key at one time, which is the clock's, and writes its value at the same place, with
- * length 0 if the key has none: as many keys as there are of both. Answers CLSM_CORE_OK and that
- * time. It is never refused. */
+/* Reads each of the keys at one time, which is the clock's, and writes its value at the same place
+ * of the values: a length of 0 says that the key has none. As many keys are read as there are
+ * values, or fewer, and the values behind these stay as they are. It answers CLSM_CORE_OK and that
+ * time, also where no key is read. It is never refused, and takes no memory. */
 uint32_t clsm_core_get_many(clsm_core_caller *caller, const clsm_core_key *keys, size_t count,
                             clsm_core_value *values, size_t room, clsm_core_time *answer);
 
-/* Reads each key below the time of the caller's open snapshot, as clsm_core_get_many. Refused with
- * CLSM_CORE_NO_SNAPSHOT: the values are as before. */
+/* Reads each of the keys below the time of the caller's open snapshot, as clsm_core_get_many.
+ * Refused with CLSM_CORE_NO_SNAPSHOT: the values stay as they are then. */
 uint32_t clsm_core_get_many_at(clsm_core_caller *caller, const clsm_core_key *keys, size_t count,
                                clsm_core_value *values, size_t room, clsm_core_time *answer);
 
@@ -392,11 +397,6 @@ uint32_t clsm_core_count(clsm_core_caller *caller, const clsm_core_range *ask,
  * page begins, if there are more. */
 uint32_t clsm_core_page(clsm_core_caller *caller, const clsm_core_range *ask, clsm_core_row *rows,
                         size_t count, clsm_core_paged *answer);
-
-/* Fills rows by falling key, as clsm_core_page by rising key: the last ones of the range that have a
- * value. The next page ends at the key that is answered. */
-uint32_t clsm_core_page_down(clsm_core_caller *caller, const clsm_core_range *ask,
-                             clsm_core_row *rows, size_t count, clsm_core_paged *answer);
 
 /* ---- the merger's */
 
@@ -478,6 +478,10 @@ static_assert(sizeof(clsm_core_code) == 4
 static_assert(sizeof(clsm_core_time) == 8
                   && offsetof(clsm_core_time, time) == 0,
               "clsm_core_time as the library has it");
+static_assert(sizeof(clsm_core_unmet) == 16
+                  && offsetof(clsm_core_unmet, time) == 0
+                  && offsetof(clsm_core_unmet, index) == 8,
+              "clsm_core_unmet as the library has it");
 static_assert(sizeof(clsm_core_got) == 80
                   && offsetof(clsm_core_got, time) == 0
                   && offsetof(clsm_core_got, value) == 8,
@@ -504,10 +508,6 @@ static_assert(sizeof(clsm_core_paged) == 32
                   && offsetof(clsm_core_paged, next) == 16
                   && offsetof(clsm_core_paged, more) == 24,
               "clsm_core_paged as the library has it");
-static_assert(sizeof(clsm_core_unmet) == 16
-                  && offsetof(clsm_core_unmet, time) == 0
-                  && offsetof(clsm_core_unmet, index) == 8,
-              "clsm_core_unmet as the library has it");
 static_assert(sizeof(clsm_core_store) == 192,
               "clsm_core_store as the library has it");
 static_assert(sizeof(clsm_core_caller) == 256,

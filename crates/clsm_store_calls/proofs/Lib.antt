@@ -21,3 +21,7 @@ pub mod Staged
 pub mod Placed
 pub mod Polls
 pub mod Beside
+pub mod SameRange
+pub mod Unmet
+pub mod AloneParts
+pub mod AloneCalls

@@ -11,6 +11,7 @@ mod hints;
 mod hot;
 mod messages;
 mod model;
+mod moves;
 mod program;
 mod retries;
 mod settled;
