@@ -33,8 +33,8 @@ pub use clsm_model::{
 pub use clsm_runs::RunFull;
 pub use clsm_scan::{Row, Sink};
 pub use clsm_store_calls::{
-    BatchError, BatchIfError, Condition, Counted, Filled, Full, Got, Keyed, Open, Page, Pinned, Rmw,
-    Scan, TryBatchError, TryBatchIfError, TryPutError, ValuePlace, Worn,
+    BatchError, BatchIfError, Condition, Counted, Filled, Full, Got, Keyed, Open, Page, Pinned,
+    Rmw, Scan, TryBatchError, TryBatchIfError, TryPutError, ValuePlace, Worn,
 };
 pub use clsm_words::{Free, Kind, Pace};
 pub use freezing::TryFroze;
