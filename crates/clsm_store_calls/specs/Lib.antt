@@ -5,6 +5,7 @@ pub mod Writing
 pub mod Reading
 pub mod Snapshots
 pub mod Scanning
+pub mod Downwards
 pub mod Meeting
 pub mod Changing
 pub mod Flooring

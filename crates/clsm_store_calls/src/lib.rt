@@ -5,6 +5,7 @@
 mod agreeing;
 mod batching;
 mod changing;
+mod downwards;
 mod flooring;
 mod freezing;
 mod got;
@@ -23,6 +24,7 @@ mod writing;
 pub use agreeing::agree_at;
 pub use batching::{batch, try_batch};
 pub use changing::{Modification, change, pin_after, try_change};
+pub use downwards::{PageDown, PagedDown, page_down_at, page_down_under};
 pub use freezing::{freeze, try_freeze};
 pub use got::{Collected, Counted, Filled, Got, Page, Rmw, Scan};
 pub use looking::{drawn_at, entries_at, room_at};
