@@ -7,3 +7,4 @@ pub mod EpochCursors
 pub mod Places
 pub mod AddedWalks
 pub mod AllWalks
+pub mod Falling

@@ -1,6 +1,7 @@
 pub mod Heads
 pub mod Filling
 pub mod Collected
+pub mod Downwards
 pub mod Optional
 pub mod Walking
 pub mod Walks

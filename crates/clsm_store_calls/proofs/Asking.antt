@@ -14,7 +14,7 @@ module _ (h : History) (s : ℕ) where
   abbrev here : ℕ → Option (List ℕ)
   here key = value h key s
 
-  range_of_all : (lo hi : ℕ) (rows : List Pair) → AreAll here lo hi rows → IsRange h s lo hi rows
+  pub range_of_all : (lo hi : ℕ) (rows : List Pair) → AreAll here lo hi rows → IsRange h s lo hi rows
   range_of_all lo hi rows all = record { rise = all.rise; inside = all.inside; below = all.below; above = all.above }
 
   pub reads_rows : (most : Option ℕ) (lo hi : ℕ) (rows : List Pair) (more : Option ℕ) → IsCollected here lo hi most rows more

@@ -16,6 +16,7 @@ pub mod Publishing
 pub mod Agreed
 pub mod Asking
 pub mod KeyCounts
+pub mod PagesDown
 pub mod ReadParts
 pub mod Staged
 pub mod Placed

@@ -6,6 +6,7 @@ pub mod Reading
 pub mod Snapshots
 pub mod Scanning
 pub mod Many
+pub mod Downwards
 pub mod Meeting
 pub mod Changing
 pub mod Flooring

@@ -7,6 +7,7 @@ mod batching;
 mod changing;
 mod conditional;
 mod conditions;
+mod downwards;
 mod flooring;
 mod freezing;
 mod got;
@@ -31,6 +32,7 @@ pub use conditional::{
     ConditionalBatch, batch_if, pin_after_batch_if, pin_after_try_batch_if, try_batch_if,
 };
 pub use conditions::Condition;
+pub use downwards::{PageDown, PagedDown, page_down_at, page_down_under};
 pub use freezing::{freeze, try_freeze};
 pub use got::{Collected, Counted, Filled, Got, Page, Rmw, Scan};
 pub use looking::{drawn_at, entries_at, room_at};

@@ -31,7 +31,7 @@ impl<R: Collector> Ending for RowsEnd<'_, R> {
 /// Collects the rows within the bounds at the point, and answers the key of the first one that is
 /// left out, if one is. Its time is not below what is merged into its component, or it is that of
 /// the seat's open snapshot.
-fn rows_below<P: Pace, R: Collector>(
+pub(crate) fn rows_below<P: Pace, R: Collector>(
     words: &Words<P>,
     seat: &mut RawSeat,
     point: ReadPoint,

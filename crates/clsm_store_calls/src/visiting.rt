@@ -18,7 +18,7 @@ use clsm_words::{Pace, RawSeat, Words};
 use std::alloc::Global;
 
 /// The end of a visit, which is recorded as a page of no rows. It takes no memory.
-fn end_of_visit(alloc: Global, bounds: Bounds, more: Option<u64>) -> End
+pub(crate) fn end_of_visit(alloc: Global, bounds: Bounds, more: Option<u64>) -> End
     ensures { result ≡ Recorded (page_deed bounds.lo bounds.hi 0 [] more) }
 {
     let (from, hi, max) = (bounds.lo, bounds.hi, 0);
