@@ -1,9 +1,9 @@
 //! A caller of a session: the calls of the store, of which writes wait for room.
-ghost use Rattle.std.specs.Prelude.{◌≡◌};
+ghost use Rattle.std.specs.Prelude.{◌≡◌, length, map};
 ghost use Rattle.clsm_model.specs.declared.record.Deed.TheVariants.{Put, Remove};
 ghost use Rattle.clsm_model.specs.Changes.{Adds, PutsIfAbsent};
 ghost use Rattle.clsm_store.specs.Promises.{ClosesSnapshot, CountsRange, FillsPage, Gets, GetsAtIfOpen, GivesNextPage, GivesPage, Hears, OpensSnapshot};
-ghost use Rattle.clsm_store.specs.Promises.{Scans, ScansAnew, Tells, VisitsRange};
+ghost use Rattle.clsm_store.specs.Promises.{GetsMany, GetsManyAtIfOpen, Scans, ScansAnew, Tells, VisitsRange};
 ghost use Rattle.clsm_session.specs.Places.{HasPlace};
 ghost use Rattle.clsm_session.specs.Promises.{WaitsToChangeBy, WaitsToPlay, WaitsToWrite, WaitsToWriteBatch, WaitsToWriteBatchIf};
 
@@ -13,8 +13,8 @@ use crate::refusal::{BatchIfRefused, BatchRefused, Refused};
 use crate::{conditional, writing};
 use clsm_model::Key;
 use clsm_store::{
-    Answer, Call, Caller, Change, Condition, Counted, Filled, Free, Got, Memory, Message, Open,
-    Page, Pages, Rmw, Row, Scan, Seat, Time, Value, added, put_if_absent,
+    Answer, Call, Caller, Change, Condition, Counted, Filled, Free, Got, Keyed, Memory, Message,
+    Open, Page, Pages, Rmw, Row, Scan, Seat, Time, Value, ValuePlace, added, put_if_absent,
 };
 use std::alloc::Global;
 use std::marker::{Model, PhantomData};
@@ -184,6 +184,27 @@ impl<'a, R: Wait, P: Place> SessionCaller<'a, R, P> {
     {
         self.caller.snapshot_time()?;
         Some(self.caller.get_at(key))
+    }
+
+    /// As `Store::get_many`.
+    pub fn get_many<K: Keyed, V: ValuePlace>(&mut self, keys: &[K], places: &mut [V]) -> Time
+        requires { length places.old ≡ length keys.now }
+        ensures { GetsMany V.tells self.old self.new (map K.key keys.now) places.new result }
+    {
+        self.caller.get_many(keys, places)
+    }
+
+    /// As `Store::get_many_at`, but answers `None`, with nothing done, where no snapshot is open.
+    pub fn get_many_at<K: Keyed, V: ValuePlace>(
+        &mut self,
+        keys: &[K],
+        places: &mut [V],
+    ) -> Option<Time>
+        requires { length places.old ≡ length keys.now }
+        ensures { GetsManyAtIfOpen V.tells self.old self.new (map K.key keys.now) places.old places.new result }
+    {
+        self.caller.snapshot_time()?;
+        Some(self.caller.get_many_at(keys, places))
     }
 
     /// As `Store::scan`.
