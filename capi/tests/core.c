@@ -10,6 +10,7 @@ static const clsm_core_sizes SIZES = {.cells = 8, .seats = 2, .shards = 1, .run 
 static const clsm_core_key KEY = {7};
 static const clsm_core_row ROW = {7, {2, {70, 71}}};
 static const clsm_core_range ALL = {0, UINT64_MAX};
+static const clsm_core_range_count SOME = {0, UINT64_MAX, 1};
 static const clsm_core_used ONE = {1};
 static const clsm_core_range_count NOWHERE[1];
 
@@ -53,6 +54,7 @@ static void call_empty_caller(clsm_core_caller *caller) {
     CORE(NO_HANDLE, clsm_core_try_put(caller, &ROW, &time));
     CORE(NO_HANDLE, clsm_core_try_remove(caller, &KEY, &time));
     CORE(NO_HANDLE, clsm_core_try_batch(caller, rows, 2, &time));
+    CORE(NO_HANDLE, clsm_core_try_batch_if(caller, rows, 1, &SOME, 1, rows, 2, &unmet));
     CORE(NO_HANDLE, clsm_core_try_add(caller, &(clsm_core_adding){7, 1}, &changed));
     CORE(NO_HANDLE, clsm_core_try_replace(caller, &(clsm_core_replacing){.key = 7}, &changed));
     CORE(NO_HANDLE, clsm_core_get(caller, &KEY, &got));
@@ -192,26 +194,6 @@ static void refuse_batches(clsm_core_caller *caller) {
     CORE(NOT_FOUND, clsm_core_get(caller, &KEY, &got));
 }
 
-/* Conditions: the first one that does not hold, behind rows the ranges; and what is refused. */
-static void refuse_conditions(clsm_core_caller *caller) {
-    static clsm_core_row rows[9];
-    const clsm_core_row absent = {.key = 7};
-    const clsm_core_range_count none = {0, 9, 0}, one = {0, 9, 1};
-    clsm_core_unmet unmet = {0, 99};
-    clsm_core_got got;
-    for (uint64_t i = 0; i < 9; i++) rows[i] = ROW;
-    CORE(KEPT, clsm_core_try_batch_if(caller, &ROW, 1, &none, 1, rows, 2, &unmet));
-    CHECK(unmet.index == 0);
-    CORE(KEPT, clsm_core_try_batch_if(caller, &absent, 1, &one, 1, rows, 2, &unmet));
-    CHECK(unmet.index == 1);
-    CORE(OK, clsm_core_try_batch_if(caller, &absent, 1, &none, 1, rows, 0, &unmet));
-    CORE(BAD_BATCH, clsm_core_try_batch_if(caller, &absent, 1, &none, 1, rows, 9, &unmet));
-    rows[1].value.length = 9;
-    CORE(BAD_VALUE, clsm_core_try_batch_if(caller, &absent, 1, &none, 1, rows, 2, &unmet));
-    CORE(BAD_VALUE, clsm_core_try_batch_if(caller, &rows[1], 1, &none, 1, rows, 1, &unmet));
-    CORE(NOT_FOUND, clsm_core_get(caller, &KEY, &got));
-}
-
 /* As many keys are read as there are of both, and pages have their rows by falling key. */
 static void read_many(clsm_core_caller *caller) {
     const clsm_core_key keys[] = {{8}, {7}, {7}};
@@ -231,6 +213,42 @@ static void read_many(clsm_core_caller *caller) {
     CHECK(paged.rows == 0 && paged.more && paged.next == 7);
 }
 
+/* ---- Batches with conditions */
+
+static void write_under_conditions(void) {
+    clsm_core_store store;
+    clsm_core_caller caller;
+    clsm_core_unmet unmet = {9, 9};
+    clsm_core_got got;
+    const clsm_core_row none[] = {{.key = 7}, {.key = 8}};
+    const clsm_core_row long_row = {7, {9, {0}}};
+    const clsm_core_row rows[] = {ROW, {8, {1, {80}}}};
+    const clsm_core_range_count counts[] = {{7, 8, 2}, {0, 6, 1}};
+    clsm_core_row many[9];
+    for (uint64_t i = 0; i < 9; i++) many[i] = (clsm_core_row){.key = i};
+    open_core(&SIZES, CLSM_CORE_OK, &store);
+    take_caller(&store, CLSM_CORE_OK, &caller);
+    CORE(BAD_VALUE, clsm_core_try_batch_if(&caller, &long_row, 1, counts, 0, rows, 2, &unmet));
+    CORE(BAD_VALUE, clsm_core_try_batch_if(&caller, none, 2, counts, 0, &long_row, 1, &unmet));
+    CORE(BAD_BATCH, clsm_core_try_batch_if(&caller, none, 2, counts, 0, many, 9, &unmet));
+    CORE(OK, clsm_core_try_batch_if(&caller, none, 2, counts, 0, rows, 0, &unmet));
+    CHECK(unmet.time == 0);
+    CORE(OK, clsm_core_try_batch_if(&caller, none, 2, counts, 0, rows, 2, &unmet));
+    CHECK(unmet.time == 0);
+    CORE(KEPT, clsm_core_try_batch_if(&caller, rows, 2, counts, 2, many, 1, &unmet));
+    CHECK(unmet.time == 2 && unmet.index == 3);
+    CORE(KEPT, clsm_core_try_batch_if(&caller, none, 2, counts, 1, many, 1, &unmet));
+    CHECK(unmet.time == 2 && unmet.index == 0);
+    CORE(FULL, clsm_core_try_batch_if(&caller, rows, 2, counts, 1, many, 7, &unmet));
+    CHECK(unmet.time == 2);
+    CORE(OK, clsm_core_get(&caller, &KEY, &got));
+    CORE(OK, clsm_core_try_batch_if(&caller, rows, 2, counts, 1, none, 2, &unmet));
+    CHECK(unmet.time == 2);
+    CORE(NOT_FOUND, clsm_core_get(&caller, &KEY, &got));
+    clsm_core_drop_caller(&caller);
+    clsm_core_close(&store);
+}
+
 static void answer_codes(void) {
     clsm_core_store store;
     clsm_core_caller caller;
@@ -242,7 +260,6 @@ static void answer_codes(void) {
     read_snapshot(&caller);
     refuse_values(&caller);
     refuse_batches(&caller);
-    refuse_conditions(&caller);
     CORE(IDLE, clsm_core_try_freeze(&merger, &ONE));
     expect_phase(&merger, false, false);
     const clsm_core_row rows[] = {ROW, {.key = 7}, ROW};
@@ -273,6 +290,7 @@ static void answer_codes(void) {
 int main(void) {
     refuse_sizes();
     take_all();
+    write_under_conditions();
     answer_codes();
     return passed("core");
 }

@@ -25,13 +25,13 @@ fn expect_rows(alloc: Global, rows: &[CoreRow]) -> Result<Vec<Condition>, NoMemb
     ensures conditions { IfOk result (λ conditions. AreConditions rows.now [] conditions.items) }
     ensures long { IfErr result (λ error. error ≡ NoMembers.TooLong → HasLong rows.now) }
 {
-    let Ok(mut conditions) = Vec::with_capacity(alloc, rows.len()) else {
-        return Err(NoMembers::Memory);
-    };
+    let mut conditions = Vec::new(alloc);
     for row in rows {
-        match to_condition(row) {
-            Some(condition) => conditions.push_reserved(condition),
-            None => return Err(NoMembers::TooLong),
+        let Some(condition) = to_condition(row) else {
+            return Err(NoMembers::TooLong);
+        };
+        if conditions.extend_from_slice(&[condition]).is_err() {
+            return Err(NoMembers::Memory);
         }
     }
     Ok(conditions)
@@ -45,11 +45,12 @@ fn expect_counts(
     ensures { OnOk result ((rows : List Row) → AreConditions rows [] conditions.old.items → AreConditions rows counts.now conditions.new.items) }
 {
     for count in counts {
-        conditions.push(Condition::Counts {
+        let condition = Condition::Counts {
             lo: count.first,
             hi: count.last,
             keys: count.keys,
-        })?;
+        };
+        conditions.extend_from_slice(&[condition])?;
     }
     Ok(())
 }

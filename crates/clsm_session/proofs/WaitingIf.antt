@@ -1,18 +1,18 @@
 -- Batches with conditions that were refused because there was no room, and tried again.
-use Rattle.std.proofs.Common.{◌≡◌, ◌+◌, ◌-◌, ◌^◌, ◌<◌, ◌≤◌, ◌⊎◌, inl, inr, ℕ, [], ◌∷◌, List, length, Result, Ok, Err, ap, ◌∙◌, subst, arith}
+use Rattle.std.proofs.Common.{◌≡◌, ◌-◌, ◌^◌, ◌<◌, ◌⊎◌, inl, inr, ℕ, [], ◌∷◌, List, Result, Ok, Err, ap, ◌∙◌, subst, arith}
 use Rattle.std.proofs.Common.{refl}
 use Rattle.clsm_model.specs.Right.{Member}
 use Rattle.clsm_store_calls.specs.declared.conditions.Condition.{Condition}
 use Rattle.clsm_store_calls.specs.declared.refusal.BatchIfError.{BatchIfError}
 use Rattle.clsm_store_calls.specs.declared.refusal.BatchIfError.TheVariants as errors
-use Rattle.clsm_store_calls.specs.Conditional.{AnswersIf, AreUnwritable, AreWritable, CountsBatchIf, CountsHold, FindsNone, FindsUnmet, IsRefusedBatchIf}
+use Rattle.clsm_store_calls.specs.Conditional.{AnswersIf, AreUnwritable, AreWritable, CountsBatchIf, CountsHold, FindsNone, FindsUnmet}
 use Rattle.clsm_store_calls.specs.Conditional.{MeetsAll, MeetsAlone, ReadsAlone}
 use Rattle.clsm_store_calls.specs.Seats.{Refuses, SeatState, StoreId}
 use Rattle.clsm_store_calls.specs.Tally.{Tally}
 use Rattle.clsm_session.specs.Conditional.{FindsNoneAtLast, GivesUpNone}
 use Rattle.clsm_session.specs.Waiting.{IsReason}
 use Rattle.clsm_session.specs.declared.refusal.Refused.{Refused}
-use Rattle.clsm_session.proofs.Waiting.{Holds, answers_after, no_room_after, refuses_trans, same_trans}
+use Rattle.clsm_session.proofs.Waiting.{Holds, answers_after, no_room_after, same_trans}
 
 -- ---- after refusals
 
@@ -46,8 +46,9 @@ module _ (a b c : SeatState) (refused : Refuses a b) where
   pub none_after : (conditions : List Condition) (members t times cells : ℕ) (reason : Refused) → times < 2 ^ 64 - 1 → Holds times a.tally b.tally
       → cells ≡ a.store.layout.cells → IsReason cells t reason → FindsNone b c conditions members t → FindsNoneAtLast a c conditions members reason
   none_after conditions members t times cells reason few holds same right none = record {
+    time = t;
+    meets = meets_all_after conditions t none.meets;
     short = no_room_after a b c t members times cells reason few holds refused same right none.short;
-    holds = none.meets.holds;
   }
 
 -- ---- what it counts

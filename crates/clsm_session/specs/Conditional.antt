@@ -3,9 +3,8 @@ use Rattle.std.specs.Prelude.{◌≡◌, ℕ, List, length}
 use Rattle.clsm_model.specs.Right.{Member}
 use Rattle.clsm_store_calls.specs.declared.conditions.Condition.{Condition}
 use Rattle.clsm_store_calls.specs.declared.refusal.BatchIfError.TheVariants as errors
-use Rattle.clsm_store_calls.specs.Conditional.{AreUnwritable, AreWritable, FindsUnmet}
-use Rattle.clsm_store_calls.specs.Conditions.{AllHold}
-use Rattle.clsm_store_calls.specs.Seats.{SeatState, known_by}
+use Rattle.clsm_store_calls.specs.Conditional.{AreUnwritable, AreWritable, FindsUnmet, MeetsAll}
+use Rattle.clsm_store_calls.specs.Seats.{SeatState}
 use Rattle.clsm_session.specs.declared.refusal.BatchIfRefused.{BatchIfRefused}
 use Rattle.clsm_session.specs.declared.refusal.BatchIfRefused.TheVariants.{Keep, NoRoom, TooLong, Unmet}
 use Rattle.clsm_session.specs.declared.refusal.Refused.{Refused}
@@ -20,8 +19,9 @@ pub record GivesUpNone (old new : SeatState) : Type 0 where
 -- in its last hold of the lock all conditions held at the clock, but so many members did not fit
 -- behind it; and for which reason no epoch was made
 pub record FindsNoneAtLast (old new : SeatState) (conditions : List Condition) (members : ℕ) (reason : Refused) : Type 0 where
+  pub time : ℕ
+  pub meets : MeetsAll old new conditions time
   pub short : IsNoRoomAtLast old new members reason
-  pub holds : AllHold (known_by new) short.time conditions
 
 -- why it was refused: because a condition did not hold, or else there was no room, in its last hold
 -- of the lock; or because the members cannot be written, with the seat as it was

@@ -4,7 +4,6 @@ use Rattle.clsm_c.specs.Calls.{ByCaller}
 use Rattle.clsm_c.specs.contracts.slots.CallerSlot as handle
 use Rattle.clsm_c.specs.contracts.types.CoreRow as one
 use Rattle.clsm_c.specs.contracts.types.CoreRangeCount as two
-use Rattle.clsm_c.specs.contracts.types.CoreRow as three
 use Rattle.clsm_c.specs.contracts.types.CoreUnmet as answered
 use Rattle.clsm_c.proofs.Exporting.{single}
 use Rattle.clsm_c.proofs.LentFour.{lent_four}
@@ -17,7 +16,7 @@ use Rattle.clsm_c.proofs.clsm_core_try_batch_if.Code as code
 
 pub clsm_core_try_batch_if_spec : {M : Type 1} → statement M
 clsm_core_try_batch_if_spec 𝓤 𝓛 𝓜 𝓡 wired =
-    lent_four (single handle.the_row tt) (rows one.the_row) (rows two.the_row) (rows three.the_row) (answer answered.the_row)
+    lent_four (single handle.the_row tt) (rows one.the_row) (rows two.the_row) (rows one.the_row) (answer answered.the_row)
     (λ old first second third new answer code. ByCaller (BatchesRowsIf first second third answer code)
     old.caller new.caller code)
     safe 𝓛 𝓜 𝓡 key (code.unfolded 𝓤 𝓛.H 𝓜 𝓡 wired) (of_thm.met 𝓤 𝓛 𝓜 𝓡 (code.calls-clsm_c::calls::try_batch_if 𝓡.env wired))
