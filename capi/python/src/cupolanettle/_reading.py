@@ -63,6 +63,18 @@ class Reader:
         """The key as the library has it."""
         return key_of(key)
 
+    def _key_of(self, number: int) -> Any:
+        """The key that the library has so."""
+        return number
+
+    def _encoded(self, value: Any) -> Any:
+        """The words of the value; ``None`` stands for no value."""
+        return value
+
+    def _decoded(self, words: Any) -> Any:
+        """The value of these words."""
+        return words
+
     def _range(self, start: Optional[int], stop: Optional[int]) -> Tuple[int, int]:
         """The first and the last key of the range; the first is greater if it is empty."""
         return range_of(0 if start is None else start, stop)
