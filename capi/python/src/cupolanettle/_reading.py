@@ -122,7 +122,7 @@ class Reader:
         return self._get_many(list(keys))
 
     def first(self, start: Optional[int] = None, stop: Optional[int] = None) -> Optional[Row]:
-        """The row of the least key from ``start`` on and below ``stop`` that has a value, if any.
+        """The row of the least key from ``start`` on and below ``stop`` with a value, if any.
 
         >>> with Store() as store:
         ...     store.update({7: 70, 3: 30})
@@ -132,7 +132,7 @@ class Reader:
         return self._end(*self._range(start, stop), False)
 
     def last(self, start: Optional[int] = None, stop: Optional[int] = None) -> Optional[Row]:
-        """The row of the greatest key from ``start`` on and below ``stop`` that has a value, if any.
+        """The row of the greatest key from ``start`` on and below ``stop`` with a value, if any.
 
         >>> with Store() as store:
         ...     store.update({7: 70, 3: 30})

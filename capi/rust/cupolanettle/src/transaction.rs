@@ -7,8 +7,8 @@ use cupolanettle_sys as raw;
 use std::fmt;
 use std::ops::RangeBounds;
 
-/// Reads the map of one moment, which is that of its first read, with its own writes in it. They are
-/// made at one later moment, if all that it read still has the same values then.
+/// Reads the map of one moment, which is that of its first read, with its own writes in it. They
+/// are made at one later moment, if all that it read still has the same values then.
 ///
 /// [`Caller::transact`](crate::Caller::transact) runs a closure on one until they are. Nobody waits
 /// for it meanwhile. From its first read on it is a snapshot, with a seat, and it keeps in memory
@@ -171,9 +171,9 @@ impl<'a> Transaction<'a> {
         noted(self.open.remove(key))
     }
 
-    /// Reads the key, adds to its word, which counts as 0 if it has no value, and notes the sum. The
-    /// answer is the sum; or `None`, and nothing was noted, if the value has several words or the
-    /// sum passes 2^64 - 1.
+    /// Reads the key, adds to its word, which counts as 0 if it has no value, and notes the sum.
+    /// The answer is the sum; or `None`, and nothing was noted, if the value has several words or
+    /// the sum passes 2^64 - 1.
     ///
     /// # Errors
     ///
