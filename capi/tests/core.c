@@ -45,8 +45,6 @@ static void call_empty_caller(clsm_core_caller *caller) {
     clsm_core_paged paged;
     clsm_core_unmet unmet;
     clsm_core_value value = ROW.value;
-    const clsm_core_range_count none = {0, 1, 0};
-    CORE(NO_HANDLE, clsm_core_try_batch_if(caller, rows, 1, &none, 1, rows, 1, &unmet));
     CORE(NO_HANDLE, clsm_core_get_many(caller, &KEY, 1, &value, 1, &time));
     CORE(NO_HANDLE, clsm_core_get_many_at(caller, &KEY, 1, &value, 1, &time));
     CORE(NO_HANDLE, clsm_core_page_down(caller, &ALL, rows, 2, &paged));

@@ -28,6 +28,15 @@ UNUSED_CALLS = {
     "clsm_snapshot_number",
     "clsm_store_snapshot",
     "clsm_time",
+    "clsm_transaction_add",
+    "clsm_transaction_close",
+    "clsm_transaction_commit",
+    "clsm_transaction_get",
+    "clsm_transaction_get_many",
+    "clsm_transaction_open",
+    "clsm_transaction_page",
+    "clsm_transaction_put",
+    "clsm_transaction_remove",
     "clsm_walk_close",
     "clsm_walk_next",
     "clsm_walk_open",
@@ -45,6 +54,7 @@ STRUCTURES: Dict[str, Any] = {
 PYTHON_CALL: int = ctypes.PyDLL._func_flags_ & ~ctypes.CDLL._func_flags_
 
 HANDLES = {"clsm_store", "clsm_caller", "clsm_snapshot", "clsm_scan", "clsm_walk"}
+HANDLES.add("clsm_transaction")
 TYPES: Dict[str, Any] = {
     "bool": ctypes.c_bool,
     "int": ctypes.c_int,

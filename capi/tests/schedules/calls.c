@@ -172,8 +172,8 @@ int batch_if(unsigned who, uint64_t first, bool is_write, uint64_t codes) {
     const clsm_row expected[] = {{first, found[0]}, {first + 1, found[1]}};
     const clsm_range_count both = {first, first + 1, found[0].length + found[1].length};
     const clsm_row rows[] = {{first, {1, {values + 1}}}, {first + 1, {1, {values + 2}}}};
-    values += 2;
     const uint64_t seen = seen_by(who);
+    values += 2;
     size_t unmet = 2;
     int code = clsm_batch_if(callers[who], expected, 2, &both, 1, rows, is_write ? 2 : 0, &unmet);
     expect_counted(code, codes | OR(KEPT), "batch_if");

@@ -26,18 +26,20 @@ installed in the system. ``CLSM_BACKEND`` chooses: ``extension`` or ``ctypes``.
 from ._batch import Batch
 from ._codecs import KeyCodec, ValueCodec, floating, octets, pairs, signed, text
 from ._coded import CodedStore as _CodedStore
-from ._errors import Closed, Code, Error, NoSeat, OwnSnapshot, RunFull, VersionsFull
+from ._errors import Closed, Code, Conflict, Error, NoSeat, OwnSnapshot, RunFull, VersionsFull
 from ._finding import VERSION as __version__
 from ._reading import Rows
 from ._snapshot import Snapshot
 from ._statistics import Statistics
 from ._store import Store
+from ._transaction import Transaction
 from ._values import Value
 
 __all__ = [
     "Batch",
     "Closed",
     "Code",
+    "Conflict",
     "Error",
     "KeyCodec",
     "NoSeat",
@@ -47,6 +49,7 @@ __all__ = [
     "Snapshot",
     "Statistics",
     "Store",
+    "Transaction",
     "Value",
     "ValueCodec",
     "VersionsFull",

@@ -52,6 +52,9 @@ class Coded(Reader):
     def _number(self, key: Any) -> int:
         return self._keys.key_of(key)
 
+    def _key_of(self, number: int) -> Any:
+        return self._keys.of_key(number)
+
     def _has(self, key: Any) -> bool:
         return super()._has(self._keys.key_of(key))
 

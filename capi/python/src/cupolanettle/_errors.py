@@ -30,6 +30,7 @@ class Code(enum.IntEnum):
     RACED = 10
     OVERTAKEN = 11
     PINNED = 12
+    CONFLICT = 13
     MEMORY = 16
     NO_SEAT = 17
     RUN_FULL = 18
@@ -63,8 +64,8 @@ class Error(Exception):
     """The library refused a call, which has changed nothing.
 
     ``code`` says why; the text is its name. Some codes have classes of their own:
-    :class:`RunFull`, :class:`VersionsFull`, :class:`OwnSnapshot`, :class:`NoSeat` and
-    :class:`Closed`. The others are ``MEMORY`` (memory ran out), ``WORN`` (the times of writes end
+    :class:`RunFull`, :class:`VersionsFull`, :class:`OwnSnapshot`, :class:`NoSeat`,
+    :class:`Conflict` and :class:`Closed`. The others are ``MEMORY`` (memory ran out), ``WORN`` (the times of writes end
     at 2**62), ``NO_THREAD`` (the system started no thread) and ``BAD_BUILD`` (package and library
     do not fit).
 
@@ -143,6 +144,21 @@ class NoSeat(Error):
 
     def __str__(self) -> str:
         return f"{super().__str__()}: each snapshot and scan keeps one until it is closed"
+
+
+class Conflict(Error):
+    """Others have changed what a transaction read. Nothing was written: run it again.
+
+    >>> with Store() as store:
+    ...     with store.transaction() as t:
+    ...         t[7] = t.get(7, 0) + 1
+    ...         store[7] = 70
+    Traceback (most recent call last):
+    cupolanettle.Conflict: conflict
+    """
+
+    def __init__(self, code: int = Code.CONFLICT) -> None:
+        super().__init__(code)
 
 
 class Closed(Error):

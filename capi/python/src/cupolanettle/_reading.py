@@ -63,6 +63,18 @@ class Reader:
         """The key as the library has it."""
         return key_of(key)
 
+    def _key_of(self, number: int) -> Any:
+        """The key that the library has so."""
+        return number
+
+    def _encoded(self, value: Any) -> Any:
+        """The words of the value; ``None`` stands for no value."""
+        return value
+
+    def _decoded(self, words: Any) -> Any:
+        """The value of these words."""
+        return words
+
     def _range(self, start: Optional[int], stop: Optional[int]) -> Tuple[int, int]:
         """The first and the last key of the range; the first is greater if it is empty."""
         return range_of(0 if start is None else start, stop)
@@ -110,7 +122,7 @@ class Reader:
         return self._get_many(list(keys))
 
     def first(self, start: Optional[int] = None, stop: Optional[int] = None) -> Optional[Row]:
-        """The row of the least key from ``start`` on and below ``stop`` that has a value, if any.
+        """The row of the least key from ``start`` on and below ``stop`` with a value, if any.
 
         >>> with Store() as store:
         ...     store.update({7: 70, 3: 30})
@@ -120,7 +132,7 @@ class Reader:
         return self._end(*self._range(start, stop), False)
 
     def last(self, start: Optional[int] = None, stop: Optional[int] = None) -> Optional[Row]:
-        """The row of the greatest key from ``start`` on and below ``stop`` that has a value, if any.
+        """The row of the greatest key from ``start`` on and below ``stop`` with a value, if any.
 
         >>> with Store() as store:
         ...     store.update({7: 70, 3: 30})

@@ -4,7 +4,7 @@ from __future__ import annotations
 
 import math
 import operator
-import struct
+import time
 from typing import (
     Any,
     Callable,
@@ -23,13 +23,15 @@ from typing import (
 from . import _core as core
 from ._batch import Batch
 from ._codecs import AnyKeyCodec, AnyValueCodec
-from ._errors import Closed, Code, Error
+from ._errors import Closed, Code, Conflict, Error
 from ._reading import Default, Reader, Rows
 from ._snapshot import FIRST_ROOM, GREATEST_ROOM, Snapshot
 from ._statistics import Statistics, statistics_of
+from ._transaction import RANGE_COUNT, Transaction
 from ._values import Row, Value, word_of
 
 Itself = TypeVar("Itself", bound="Store")
+Answer = TypeVar("Answer")
 Function = Callable[[Optional[Value]], Optional[Value]]
 Keep = Callable[[int, Value], object]
 AnyRows = Union[Mapping[int, Optional[Value]], Iterable[Tuple[int, Optional[Value]]]]
@@ -49,9 +51,8 @@ _MILLISECONDS = 1_000  # of a second
 _AT_ONCE = -1
 _FOR_EVER = 2**63 - 1
 _NO_PATIENCE = -1
-
-# A range, and how many of its keys have a value, as the library has them.
-_COUNT = struct.Struct("=3Q")
+_FIRST_PAUSE = 10e-6  # seconds
+_LONGEST_PAUSE = 1e-3
 
 
 def _option(name: str, value: int, least: int) -> int:
@@ -279,7 +280,7 @@ class Store(core.Store, Reader):
         """
         ranges = counts.items() if isinstance(counts, Mapping) else counts
         packed = b"".join(
-            _COUNT.pack(*self._range(*bounds), word_of(keys)) for bounds, keys in ranges
+            RANGE_COUNT.pack(*self._range(*bounds), word_of(keys)) for bounds, keys in ranges
         )
         try:
             unmet = self._write_if(self._pack_all(expected), packed, self._pack_all(rows))
@@ -288,6 +289,48 @@ class Store(core.Store, Reader):
                 raise
             raise ValueError("a batch has at most as many writes as an epoch") from None
         return unmet is None
+
+    def transaction(self) -> Transaction:
+        """A transaction: it reads one moment, and its writes are made if that still stands.
+
+        They are made at the end of its ``with``; :class:`Conflict` if others have changed what it
+        read, with nothing written.
+
+        >>> with Store() as store:
+        ...     store[1] = 10
+        ...     with store.transaction() as t:
+        ...         t[1] -= 5
+        ...         t[2] = t.get(2, 0) + 5
+        ...     list(store.scan())
+        [(1, 5), (2, 5)]
+        """
+        return Transaction(self)
+
+    def transact(self, function: Callable[[Transaction], Answer], tries: int = 100) -> Answer:
+        """Runs the function on a transaction, again after a conflict. What the function answers.
+
+        It runs so many times at most, after pauses that grow up to a millisecond, and then it
+        raises :class:`Conflict`. So it should do nothing but read and write by its transaction.
+        What it raises ends it, and nothing is written.
+
+        >>> with Store() as store:
+        ...     def count(t):
+        ...         t[7] = t.get(7, 0) + 1
+        ...         return t[7]
+        ...     store.transact(count), store.transact(count)
+        (1, 2)
+        """
+        for made in range(max(tries, 1)):
+            if made > 0:
+                time.sleep(min(_FIRST_PAUSE * 2**made, _LONGEST_PAUSE))
+            transaction = Transaction(self)
+            try:
+                answer = function(transaction)
+                if transaction._commit():
+                    return answer
+            finally:
+                transaction.cancel()
+        raise Conflict(Code.CONFLICT)
 
     def _pack_all(self, rows: AnyRows) -> bytes:
         pairs = rows.items() if isinstance(rows, Mapping) else rows

@@ -64,6 +64,9 @@ pub const OVERTAKEN: c_int = 11;
 /// A read that is running still holds what a merge replaced.
 pub const PINNED: c_int = 12;
 
+/// What the transaction read does not stand any more: run it again.
+pub const CONFLICT: c_int = 13;
+
 /// Memory ran out.
 pub const MEMORY: c_int = 16;
 
@@ -157,6 +160,13 @@ pub struct Scan {
 /// A walk, of which nobody but the library knows more.
 #[repr(C)]
 pub struct Walk {
+    _own: [u8; 0],
+    _stays: PhantomData<(*mut u8, PhantomPinned)>,
+}
+
+/// A transaction, of which nobody but the library knows more.
+#[repr(C)]
+pub struct Transaction {
     _own: [u8; 0],
     _stays: PhantomData<(*mut u8, PhantomPinned)>,
 }
@@ -456,6 +466,40 @@ unsafe extern "C" {
 
     /// Ends a walk, wherever it is.
     pub fn clsm_walk_close(walk: *mut Walk);
+
+    // ---- transactions
+
+    /// Opens a transaction.
+    pub fn clsm_transaction_open(caller: *mut Caller, transaction: *mut *mut Transaction) -> c_int;
+
+    /// The value that the key has to it.
+    pub fn clsm_transaction_get(transaction: *mut Transaction, key: u64,
+        value_or_null: *mut Value) -> c_int;
+
+    /// The same of several keys.
+    pub fn clsm_transaction_get_many(transaction: *mut Transaction, keys: *const u64,
+        count: usize, values: *mut Value) -> c_int;
+
+    /// The first rows of the range, with its own writes among them.
+    pub fn clsm_transaction_page(transaction: *mut Transaction, first: u64, last: u64,
+        rows: *mut Row, room: usize, end: *mut PageEnd) -> c_int;
+
+    /// Notes a write of so many words at the key.
+    pub fn clsm_transaction_put(transaction: *mut Transaction, key: u64, words: *const u64,
+        count: usize) -> c_int;
+
+    /// Notes the removal of the key.
+    pub fn clsm_transaction_remove(transaction: *mut Transaction, key: u64) -> c_int;
+
+    /// Reads the key, adds to its word, and notes the sum.
+    pub fn clsm_transaction_add(transaction: *mut Transaction, key: u64, by: u64,
+        changed_or_null: *mut Changed) -> c_int;
+
+    /// Makes its writes, if all that it read still stands.
+    pub fn clsm_transaction_commit(transaction: *mut Transaction) -> c_int;
+
+    /// Closes a transaction; what it noted is not written.
+    pub fn clsm_transaction_close(transaction: *mut Transaction);
 
     // ---- closing, and setting the pointer to null in the same call
 

@@ -3,6 +3,7 @@ mod batches;
 mod changes;
 mod many;
 mod rows;
+mod transactions;
 mod walks;
 
 use crate::error::{Memory, NoSeat, Refused, TryError, Unseen};

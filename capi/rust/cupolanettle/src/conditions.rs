@@ -6,8 +6,8 @@ use cupolanettle_sys as raw;
 use std::fmt;
 use std::ops::RangeBounds;
 
-/// What [`Caller::batch_if`](crate::Caller::batch_if) expects to find. Values are compared, not when
-/// they were written. Of several conditions of one key each counts.
+/// What [`Caller::batch_if`](crate::Caller::batch_if) expects to find. Values are compared, not
+/// when they were written. Of several conditions of one key each counts.
 ///
 /// They are numbered: those of keys in their order, and behind them those of ranges in theirs. A
 /// range is the same if each of its rows is, and how many they are.

@@ -173,6 +173,32 @@ pub enum BatchIfError {
     Refused(Refused),
 }
 
+/// Why a transaction was not made. Nothing was written.
+///
+/// ```
+/// use cupolanettle::{Error, Options, TransactError};
+///
+/// let store = Options::new().keys(1_000).epoch(4).open()?;
+/// let caller = store.caller()?;
+/// let refused = caller.transact(|t| (0..5).try_for_each(|key| t.put(key, 0)));
+/// assert_eq!(refused, Err(TransactError::TooLong));
+/// # Ok::<(), Error>(())
+/// ```
+#[non_exhaustive]
+#[derive(Clone, Copy, PartialEq, Eq, Hash, Debug)]
+pub enum TransactError {
+    /// Others changed what it read, each time that it ran.
+    Conflict,
+    /// It writes more keys than an [epoch](crate::Options::epoch) has writes.
+    TooLong,
+    /// All seats of the store are taken: its reads take one.
+    NoSeat,
+    /// Memory ran out. The same call may succeed if it is made again.
+    Memory,
+    /// Its writes were refused.
+    Refused(Refused),
+}
+
 /// Why a write that never waits was not made. Nothing was written.
 ///
 /// All but [`Refused`](TryError::Refused) may be made again at once. With that, a loop of tries
@@ -269,6 +295,24 @@ pub enum CopyError {
     /// A write to the other store was refused.
     Refused(Refused),
 }
+
+/// Others changed what a transaction read, each time that it ran. Nothing was written.
+///
+/// ```
+/// use cupolanettle::{Conflict, Error, Options};
+///
+/// let store = Options::new().keys(1_000).open()?;
+/// let (caller, other) = (store.caller()?, store.caller()?);
+/// let ended = caller.transact(|t| {
+///     t.add(7, 1)?;
+///     other.add(7, 1)?; // is faster, each time
+///     Ok::<_, Error>(())
+/// });
+/// assert_eq!(ended, Err(Error::Conflict(Conflict)));
+/// # Ok::<(), Error>(())
+/// ```
+#[derive(Clone, Copy, PartialEq, Eq, Hash, Debug)]
+pub struct Conflict;
 
 /// All 64 seats of the store are taken by callers, snapshots and iterators that are open.
 ///
@@ -402,6 +446,8 @@ pub enum Error {
     Kept(Kept),
     /// A condition of a batch did not hold.
     Unmet(Unmet),
+    /// A transaction had a conflict each time that it ran.
+    Conflict(Conflict),
     /// A batch had no write, or too many.
     Batch(BatchError),
     /// A write that never waits was not made; it was not refused.
@@ -445,6 +491,19 @@ impl Refused {
             raw::OWN_SNAPSHOT => Refused::OwnSnapshot,
             raw::WORN => Refused::Worn,
             code => unexpected(code),
+        }
+    }
+}
+
+impl TransactError {
+    #[cold]
+    pub(crate) fn of(code: Code) -> TransactError {
+        match code {
+            raw::CONFLICT => TransactError::Conflict,
+            raw::BAD_BATCH => TransactError::TooLong,
+            raw::NO_SEAT => TransactError::NoSeat,
+            raw::MEMORY => TransactError::Memory,
+            code => TransactError::Refused(Refused::of(code)),
         }
     }
 }

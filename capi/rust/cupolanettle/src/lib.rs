@@ -173,6 +173,7 @@
 //! an atomic's `fetch_add`, `compare_exchange`, `fetch_update` | [`Caller::add`], [`Caller::replace`], [`Caller::update`]
 //! sled's `compare_and_swap`, `apply_batch`, `scan_prefix` | [`Caller::replace`], [`Caller::batch`], [`Text8::prefixed`](codec::Text8::prefixed)
 //! heed's and redb's read transactions and types | [`Snapshot`]; [`codec`]
+//! sled's `transaction` | [`Caller::transact`]
 //! r2d2's `Pool::get` | [`Pool::take`]
 //! files, `flush`, recovery | none: the map is in memory
 //!
@@ -199,6 +200,7 @@ mod snapshot;
 mod statistics;
 mod store;
 mod time;
+mod transaction;
 mod value;
 mod walk;
 
@@ -207,8 +209,8 @@ pub use caller::Caller;
 pub use change::{Changed, Kept};
 pub use conditions::{Conditions, Unmet};
 pub use error::{
-    BadBytes, BadValue, BatchError, BatchIfError, ChangeError, CopyError, Error, Memory, NoSeat,
-    OpenError, Refused, RetainError, TryError, Unseen,
+    BadBytes, BadValue, BatchError, BatchIfError, ChangeError, Conflict, CopyError, Error, Memory,
+    NoSeat, OpenError, Refused, RetainError, TransactError, TryError, Unseen,
 };
 pub use pool::{Pool, PooledCaller};
 pub use range::{Page, Range};
@@ -216,6 +218,7 @@ pub use snapshot::Snapshot;
 pub use statistics::Statistics;
 pub use store::{Options, Store};
 pub use time::Time;
+pub use transaction::Transaction;
 pub use value::Value;
 pub use walk::Walk;
 

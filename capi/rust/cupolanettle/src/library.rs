@@ -421,6 +421,90 @@ impl Handle<raw::Caller> {
     }
 }
 
+// ---- transactions
+
+/// A transaction, which its caller outlives: it borrows that, as a walk does.
+pub(crate) struct OpenTransaction<'a> {
+    at: Place<raw::Transaction>,
+    caller: PhantomData<&'a Handle<raw::Caller>>,
+}
+
+impl Handle<raw::Caller> {
+    pub(crate) fn transaction(&self) -> Result<OpenTransaction<'_>, Memory> {
+        let mut at = null_mut();
+        // SAFETY: as in `number`, and `at` is of this frame.
+        let code = unsafe { raw::clsm_transaction_open(self.place(), &raw mut at) };
+        match NonNull::new(at) {
+            Some(at) => Ok(OpenTransaction { at: Place(at), caller: PhantomData }),
+            None if code == raw::MEMORY => Err(Memory),
+            None => unexpected(code),
+        }
+    }
+}
+
+impl OpenTransaction<'_> {
+    fn place(&mut self) -> *mut raw::Transaction {
+        self.at.0.as_ptr()
+    }
+
+    pub(crate) fn get(&mut self, key: u64) -> (Code, raw::Value) {
+        let mut found = raw::Value::default();
+        // SAFETY: the transaction and its caller are open, and in no other call; `found` is of
+        // this frame.
+        let code = unsafe { raw::clsm_transaction_get(self.place(), key, &raw mut found) };
+        (code, found)
+    }
+
+    /// Reads as many keys as there are values.
+    pub(crate) fn get_all(&mut self, keys: &[u64], values: &mut [raw::Value]) -> Code {
+        assert_eq!(keys.len(), values.len());
+        let (from, into) = (keys.as_ptr(), values.as_mut_ptr());
+        // SAFETY: as in `get`, and both are slices of so many.
+        unsafe { raw::clsm_transaction_get_many(self.place(), from, keys.len(), into) }
+    }
+
+    /// Reads the first rows of the range, as many as the slice has, and answers where it ends.
+    pub(crate) fn page(&mut self, keys: Keys, rows: &mut [raw::Row]) -> (Code, raw::PageEnd) {
+        let mut end = raw::PageEnd::default();
+        let (into, room) = (rows.as_mut_ptr(), rows.len());
+        let Keys { first, last } = keys;
+        // SAFETY: as in `get`, and there is room for so many rows.
+        let code = unsafe {
+            raw::clsm_transaction_page(self.place(), first, last, into, room, &raw mut end)
+        };
+        (code, end)
+    }
+
+    pub(crate) fn put(&mut self, key: u64, value: &[u64]) -> Code {
+        // SAFETY: as in `get`, and the words are one slice.
+        unsafe { raw::clsm_transaction_put(self.place(), key, value.as_ptr(), value.len()) }
+    }
+
+    pub(crate) fn remove(&mut self, key: u64) -> Code {
+        // SAFETY: as in `get`.
+        unsafe { raw::clsm_transaction_remove(self.place(), key) }
+    }
+
+    pub(crate) fn add(&mut self, key: u64, by: u64) -> (Code, raw::Changed) {
+        let mut changed = raw::Changed::default();
+        // SAFETY: as in `get`, and `changed` is of this frame.
+        let code = unsafe { raw::clsm_transaction_add(self.place(), key, by, &raw mut changed) };
+        (code, changed)
+    }
+
+    pub(crate) fn commit(&mut self) -> Code {
+        // SAFETY: as in `get`.
+        unsafe { raw::clsm_transaction_commit(self.place()) }
+    }
+}
+
+impl Drop for OpenTransaction<'_> {
+    fn drop(&mut self) {
+        // SAFETY: the transaction is open, and nothing uses it after its drop.
+        unsafe { raw::clsm_transaction_close(self.place()) };
+    }
+}
+
 // ---- walks
 
 /// A walk, which its caller outlives: it borrows that.

@@ -112,7 +112,8 @@ impl Caller {
     ///
     /// # Errors
     ///
-    /// [`BatchIfError`], with nothing written; [`BatchIfError::Unmet`] if a condition does not hold.
+    /// [`BatchIfError`], with nothing written; [`BatchIfError::Unmet`] if a condition does not
+    /// hold.
     ///
     /// ```
     /// # use cupolanettle::{Batch, BatchIfError, Caller, Conditions, Error, Options};

@@ -1,7 +1,7 @@
 //! All of them are errors, with their sources, and `?` turns each into [`Error`].
 use super::{
-    BadBytes, BadValue, BatchError, BatchIfError, ChangeError, CopyError, Error, Memory, NoSeat,
-    OpenError, Refused, RetainError, TryError, Unseen,
+    BadBytes, BadValue, BatchError, BatchIfError, ChangeError, Conflict, CopyError, Error, Memory,
+    NoSeat, OpenError, Refused, RetainError, TransactError, TryError, Unseen,
 };
 use crate::change::Kept;
 use crate::conditions::Unmet;
@@ -14,6 +14,7 @@ impl std::error::Error for Error {
             Error::Refused(error) => error.source(),
             Error::Kept(error) => error.source(),
             Error::Unmet(error) => error.source(),
+            Error::Conflict(error) => error.source(),
             Error::Batch(error) => error.source(),
             Error::Try(error) => error.source(),
             Error::NoSeat(error) => error.source(),
@@ -42,6 +43,7 @@ causes! {
     Refused => Refused,
     Kept => Kept,
     Unmet => Unmet,
+    Conflict => Conflict,
     NoSeat => NoSeat,
     Memory => Memory,
     BadValue => BadValue,
@@ -82,6 +84,7 @@ macro_rules! refusals {
 
 refusals! {
     BatchError,
+    TransactError,
     TryError,
     RetainError,
     CopyError,
@@ -122,6 +125,36 @@ impl From<BatchIfError> for Error {
             BatchIfError::TooLong => BatchError::TooLong.into(),
             BatchIfError::Memory => Memory.into(),
             BatchIfError::Refused(refused) => refused.into(),
+        }
+    }
+}
+
+impl From<Conflict> for TransactError {
+    fn from(_: Conflict) -> TransactError {
+        TransactError::Conflict
+    }
+}
+
+impl From<NoSeat> for TransactError {
+    fn from(_: NoSeat) -> TransactError {
+        TransactError::NoSeat
+    }
+}
+
+impl From<Memory> for TransactError {
+    fn from(_: Memory) -> TransactError {
+        TransactError::Memory
+    }
+}
+
+impl From<TransactError> for Error {
+    fn from(error: TransactError) -> Error {
+        match error {
+            TransactError::Conflict => Conflict.into(),
+            TransactError::TooLong => BatchError::TooLong.into(),
+            TransactError::NoSeat => NoSeat.into(),
+            TransactError::Memory => Memory.into(),
+            TransactError::Refused(refused) => refused.into(),
         }
     }
 }

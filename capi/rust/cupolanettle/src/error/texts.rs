@@ -1,8 +1,8 @@
 //! What errors say to people. Those that hold another one leave its text to that, which is their
 //! source.
 use super::{
-    BadBytes, BadValue, BatchError, BatchIfError, ChangeError, CopyError, Error, Memory, NoSeat,
-    OpenError, Refused, RetainError, TryError, Unseen,
+    BadBytes, BadValue, BatchError, BatchIfError, ChangeError, Conflict, CopyError, Error, Memory,
+    NoSeat, OpenError, Refused, RetainError, TransactError, TryError, Unseen,
 };
 use crate::change::Kept;
 use crate::conditions::Unmet;
@@ -81,6 +81,26 @@ impl fmt::Display for BatchIfError {
     }
 }
 
+impl fmt::Display for Conflict {
+    fn fmt(&self, f: &mut fmt::Formatter<'_>) -> fmt::Result {
+        f.write_str("others changed what the transaction read, each time that it ran")
+    }
+}
+
+impl fmt::Display for TransactError {
+    fn fmt(&self, f: &mut fmt::Formatter<'_>) -> fmt::Result {
+        match self {
+            TransactError::Conflict => Conflict.fmt(f),
+            TransactError::TooLong => {
+                f.write_str("the transaction writes more keys than an epoch has writes")
+            }
+            TransactError::NoSeat => NoSeat.fmt(f),
+            TransactError::Memory => Memory.fmt(f),
+            TransactError::Refused(_) => f.write_str("the transaction was refused"),
+        }
+    }
+}
+
 impl fmt::Display for TryError {
     fn fmt(&self, f: &mut fmt::Formatter<'_>) -> fmt::Result {
         match self {
@@ -149,6 +169,7 @@ impl fmt::Display for Error {
             Error::Refused(error) => error.fmt(f),
             Error::Kept(error) => error.fmt(f),
             Error::Unmet(error) => error.fmt(f),
+            Error::Conflict(error) => error.fmt(f),
             Error::Batch(error) => error.fmt(f),
             Error::Try(error) => error.fmt(f),
             Error::NoSeat(error) => error.fmt(f),

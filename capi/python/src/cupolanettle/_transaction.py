@@ -1,0 +1,295 @@
+"""Transactions."""
+
+from __future__ import annotations
+
+import struct
+from types import TracebackType
+from typing import (
+    TYPE_CHECKING,
+    Any,
+    Dict,
+    Iterable,
+    Iterator,
+    List,
+    NoReturn,
+    Optional,
+    Tuple,
+    Type,
+    TypeVar,
+    Union,
+    overload,
+)
+
+from . import _core as core
+from ._errors import Code, Conflict, Error
+from ._values import Row, Value
+
+if TYPE_CHECKING:
+    from ._reading import Default
+    from ._snapshot import Snapshot
+    from ._store import Store
+
+Itself = TypeVar("Itself", bound="Transaction")
+
+# A range, and how many of its keys have a value, as the library has them.
+RANGE_COUNT = struct.Struct("=3Q")
+_ROWS_AT_A_TIME = 64
+_NO_DEFAULT = object()
+
+
+class Transaction:
+    """Reads the map of one moment, that of its first read, with its own writes in it.
+
+    With ``with``, its writes are made at its end, all at one moment, if all that it read still has
+    the same values then, and else none: :class:`Conflict`. An exception inside writes nothing. So
+    transactions have the effect that they would have one after another. Nobody waits for one
+    meanwhile. :meth:`Store.transact` runs a function on one again after a conflict.
+
+    It is one thread's. From its first read to its end it keeps a seat of the store, and old
+    versions, as a snapshot does. One that has written nothing never has a conflict.
+
+    >>> with Store() as store:
+    ...     store[1] = 10
+    ...     with store.transaction() as t:
+    ...         t[1] -= 3
+    ...         t[2] = t.get(2, 0) + 3
+    ...     list(store.scan())
+    [(1, 7), (2, 3)]
+    """
+
+    def __init__(self, store: Store) -> None:
+        self._store = store
+        self._begin()
+
+    def _begin(self) -> None:
+        self._snapshot: Optional[Snapshot] = None
+        # What it read, and what it is to write with that as the library has it, by numbers.
+        self._reads: Dict[int, Optional[Value]] = {}
+        self._writes: Dict[int, Tuple[Optional[Value], bytes]] = {}
+        self._ranges: List[List[int]] = []
+
+    def _reader(self) -> Snapshot:
+        if self._snapshot is None:
+            self._snapshot = self._store.snapshot()
+        return self._snapshot
+
+    # ---- Reads
+
+    def _found(self, number: int) -> Optional[Value]:
+        """What the key has, of which it knows."""
+        own = self._writes.get(number)
+        return self._reads[number] if own is None else own[0]
+
+    def _read(self, numbers: List[int]) -> List[Optional[Value]]:
+        known = self._writes.keys() | self._reads.keys()
+        unknown = [number for number in numbers if number not in known]
+        if unknown:
+            found = core.Snapshot._get_many(self._reader(), unknown)
+            self._reads.update(zip(unknown, found))
+        return [self._found(number) for number in numbers]
+
+    def __getitem__(self, key: int) -> Value:
+        """The value that the key has to it; ``KeyError`` if it has none.
+
+        >>> with Store() as store, store.transaction() as t:
+        ...     t[7] = 70
+        ...     t[7]
+        70
+        """
+        value: Optional[Value] = self.get(key)
+        if value is None:
+            raise KeyError(key)
+        return value
+
+    @overload
+    def get(self, key: int) -> Optional[Value]: ...
+
+    @overload
+    def get(self, key: int, default: Default) -> Union[Value, Default]: ...
+
+    def get(self, key: int, default: object = None) -> Any:
+        """The value that the key has to it, or the default if it has none.
+
+        >>> with Store() as store, store.transaction() as t:
+        ...     t.get(7), t.get(7, 0)
+        (None, 0)
+        """
+        words = self._read([self._store._number(key)])[0]
+        return default if words is None else self._store._decoded(words)
+
+    def get_many(self, keys: Iterable[int]) -> List[Optional[Value]]:
+        """The values of the keys, each at the place of its key; ``None`` for none.
+
+        >>> with Store() as store, store.transaction() as t:
+        ...     t[7] = 70
+        ...     t.get_many([8, 7])
+        [None, 70]
+        """
+        found = self._read([self._store._number(key) for key in keys])
+        return [self._store._decoded(words) for words in found]
+
+    def __contains__(self, key: int) -> bool:
+        """Whether the key has a value to it.
+
+        >>> with Store() as store, store.transaction() as t:
+        ...     t[7] = 70
+        ...     7 in t, 8 in t
+        (True, False)
+        """
+        return self._read([self._store._number(key)])[0] is not None
+
+    def scan(self, start: Optional[int] = None, stop: Optional[int] = None) -> Iterator[Row]:
+        """The rows from ``start`` on and below ``stop``, by rising key, with its own writes so far.
+
+        It has read the range up to the last row that it gave, or to its end: what others change
+        there is a conflict.
+
+        >>> with Store() as store:
+        ...     store.update({3: 30, 7: 70})
+        ...     with store.transaction() as t:
+        ...         t[5] = 50
+        ...         t.remove(7)
+        ...         list(t.scan())
+        [(3, 30), (5, 50)]
+        """
+        return self._scan(*self._store._range(start, stop))
+
+    def _scan(self, first: int, last: int) -> Iterator[Row]:
+        store = self._store
+        own = sorted(number for number in self._writes if first <= number <= last)
+        covered = [1, 0, 0]  # so far: no key, of which none has a value
+        self._ranges.append(covered)
+        for number, words, is_there in self._merged(first, last, own):
+            covered[:] = first, number, covered[2] + is_there
+            if words is not None:
+                yield store._key_of(number), store._decoded(words)
+        covered[:] = first, last, covered[2]
+
+    def _merged(
+        self, first: int, last: int, own: List[int]
+    ) -> Iterator[Tuple[int, Optional[Value], bool]]:
+        """The keys that the snapshot has and that it has written, each with what it has to it, and
+        whether the snapshot has it."""
+        places = iter(own)
+        mine = next(places, None)
+        rows = core.Rows(self._reader(), first, last, _ROWS_AT_A_TIME, _ROWS_AT_A_TIME, False)
+        for number, words in rows:
+            while mine is not None and mine < number:
+                yield mine, self._writes[mine][0], False
+                mine = next(places, None)
+            self._reads[number] = words
+            yield number, self._found(number), True
+            if mine == number:
+                mine = next(places, None)
+        while mine is not None:
+            yield mine, self._writes[mine][0], False
+            mine = next(places, None)
+
+    # ---- Writes, which nobody sees before its end
+
+    def __setitem__(self, key: int, value: Value) -> None:
+        """Notes a write of the value at the key; ``ValueError`` as for ``store[key] = value``.
+
+        >>> with Store() as store:
+        ...     with store.transaction() as t:
+        ...         t[7] = 70, 71
+        ...         before = 7 in store
+        ...     before, store[7]
+        (False, (70, 71))
+        """
+        if value is None:
+            raise TypeError("None is no value; remove removes a key")
+        self._note(key, value)
+
+    def _note(self, key: int, value: Optional[Value]) -> None:
+        packed = self._store._pack(key, value)
+        self._writes[self._store._number(key)] = self._store._encoded(value), packed
+
+    def remove(self, key: int) -> None:
+        """Notes the removal of the key, whether or not it has a value.
+
+        >>> with Store() as store:
+        ...     store[7] = 70
+        ...     with store.transaction() as t:
+        ...         t.remove(7)
+        ...         7 in t, 7 in store
+        (False, True)
+        """
+        self._note(key, None)
+
+    def __delitem__(self, key: int) -> None:
+        """Notes the removal of the key; ``KeyError`` if it has no value.
+
+        >>> with Store() as store, store.transaction() as t:
+        ...     del t[7]
+        Traceback (most recent call last):
+        KeyError: 7
+        """
+        if key not in self:
+            raise KeyError(key)
+        self._note(key, None)
+
+    # ---- The end
+
+    def commit(self) -> None:
+        """Makes its writes, as the end of its ``with`` does, and begins anew.
+
+        :class:`Conflict` if what it read has changed. ``ValueError`` if it writes more keys than an
+        epoch of the store has writes; :class:`RunFull`, :class:`VersionsFull`, or :class:`Error` if
+        memory ran out. Nothing was written then.
+
+        >>> with Store() as store:
+        ...     t = store.transaction()
+        ...     t[7] = 70
+        ...     t.commit()
+        ...     store[7]
+        70
+        """
+        if not self._commit():
+            raise Conflict(Code.CONFLICT)
+
+    def _commit(self) -> bool:
+        """Whether there was no conflict."""
+        expected = b"".join(core.pack(number, words) for number, words in self._reads.items())
+        counts = b"".join(RANGE_COUNT.pack(*covered) for covered in self._ranges)
+        rows = b"".join(packed for _, packed in self._writes.values())
+        self.cancel()  # a write that waits for room must not wait for its own snapshot
+        if not rows:
+            return True
+        try:
+            return self._store._write_if(expected, counts, rows) is None
+        except Error as error:
+            if error.code != Code.BAD_BATCH:
+                raise
+            raise ValueError("a transaction writes at most as many keys as an epoch") from None
+
+    def cancel(self) -> None:
+        """Forgets what it read and was to write, and begins anew.
+
+        >>> with Store() as store, store.transaction() as t:
+        ...     t[7] = 70
+        ...     t.cancel()
+        ...     7 in t
+        False
+        """
+        snapshot = self._snapshot
+        self._begin()
+        if snapshot is not None:
+            snapshot.close()
+
+    def __enter__(self: Itself) -> Itself:
+        return self
+
+    def __exit__(
+        self,
+        kind: Optional[Type[BaseException]],
+        error: Optional[BaseException],
+        trace: Optional[TracebackType],
+    ) -> None:
+        if kind is None:
+            self.commit()
+        else:
+            self.cancel()
+
+    def __reduce__(self) -> NoReturn:
+        raise TypeError("a Transaction cannot be copied or pickled")

@@ -1,0 +1,223 @@
+//! Transactions.
+use crate::error::{Conflict, Memory, TransactError};
+use crate::library::{Code, OpenTransaction};
+use crate::range::{pair, Keys, Page};
+use crate::value::Value;
+use cupolanettle_sys as raw;
+use std::fmt;
+use std::ops::RangeBounds;
+
+/// Reads the map of one moment, which is that of its first read, with its own writes in it. They
+/// are made at one later moment, if all that it read still has the same values then.
+///
+/// [`Caller::transact`](crate::Caller::transact) runs a closure on one until they are. Nobody waits
+/// for it meanwhile. From its first read on it is a snapshot, with a seat, and it keeps in memory
+/// what it read and is to write.
+///
+/// Each call of it is refused with [`TransactError::Memory`] where memory runs out, and its first
+/// read with [`TransactError::NoSeat`] where no seat is left.
+///
+/// ```
+/// use cupolanettle::{Error, Options};
+///
+/// let store = Options::new().keys(1_000).open()?;
+/// let caller = store.caller()?;
+/// caller.put(1, 100)?;
+/// let left = caller.transact(|t| {
+///     let old = t.get(1)?.map_or(0, |value| value[0]);
+///     t.put(1, old - 30)?;
+///     t.put(2, 30)?;
+///     assert_eq!(t.get(2)?, Some(30.into()));
+///     Ok::<_, Error>(old - 30)
+/// })?;
+/// assert_eq!((left, caller.get(2)), (70, Some(30.into())));
+/// # Ok::<(), Error>(())
+/// ```
+#[doc(alias("txn", "Txn", "OptimisticTransaction"))]
+pub struct Transaction<'a> {
+    open: OpenTransaction<'a>,
+}
+
+impl<'a> Transaction<'a> {
+    pub(crate) fn of(open: OpenTransaction<'a>) -> Transaction<'a> {
+        Transaction { open }
+    }
+
+    /// The value that the key has to it: what it wrote last, or what it reads.
+    ///
+    /// # Errors
+    ///
+    /// [`TransactError::NoSeat`], [`TransactError::Memory`].
+    ///
+    /// ```
+    /// # use cupolanettle::{Error, Options};
+    /// # let store = Options::new().keys(1_000).open()?;
+    /// # let caller = store.caller()?;
+    /// caller.put(7, 70)?;
+    /// let found = caller.transact(|t| t.get(7).map_err(Error::from))?;
+    /// assert_eq!(found, Some(70.into()));
+    /// # Ok::<(), Error>(())
+    /// ```
+    pub fn get(&mut self, key: u64) -> Result<Option<Value>, TransactError> {
+        match self.open.get(key) {
+            (raw::OK | raw::NOT_FOUND, found) => Ok(Value::from_raw(found)),
+            (code, _) => Err(TransactError::of(code)),
+        }
+    }
+
+    /// The values of the keys, each at the place of its key.
+    ///
+    /// # Errors
+    ///
+    /// [`TransactError::NoSeat`], [`TransactError::Memory`].
+    ///
+    /// ```
+    /// # use cupolanettle::{Error, Options};
+    /// # let store = Options::new().keys(1_000).open()?;
+    /// # let caller = store.caller()?;
+    /// caller.put(7, 70)?;
+    /// let found = caller.transact(|t| t.get_many(&[8, 7]).map_err(Error::from))?;
+    /// assert_eq!(found, [None, Some(70.into())]);
+    /// # Ok::<(), Error>(())
+    /// ```
+    pub fn get_many(&mut self, keys: &[u64]) -> Result<Vec<Option<Value>>, TransactError> {
+        let mut found = Vec::new();
+        let mut values = Vec::new();
+        found.try_reserve_exact(keys.len()).map_err(|_| Memory)?;
+        values.try_reserve_exact(keys.len()).map_err(|_| Memory)?;
+        found.resize(keys.len(), raw::Value::default());
+        match self.open.get_all(keys, &mut found) {
+            raw::OK => values.extend(found.into_iter().map(Value::from_raw)),
+            code => return Err(TransactError::of(code)),
+        }
+        Ok(values)
+    }
+
+    /// The first rows of the range by rising key, at most so many, with its own writes among them.
+    /// It has read the range up to the key that is told as the next one, or all of it: what others
+    /// change there is a conflict. It takes memory for so many rows.
+    ///
+    /// # Errors
+    ///
+    /// [`TransactError::NoSeat`], [`TransactError::Memory`].
+    ///
+    /// ```
+    /// # use cupolanettle::{Error, Options};
+    /// # let store = Options::new().keys(1_000).open()?;
+    /// # let caller = store.caller()?;
+    /// caller.put(7, 70)?;
+    /// let page = caller.transact(|t| {
+    ///     t.put(3, 30)?;
+    ///     Ok::<_, Error>(t.page(..10, 1)?)
+    /// })?;
+    /// assert_eq!((page.rows, page.next), (vec![(3, 30.into())], Some(7)));
+    /// # Ok::<(), Error>(())
+    /// ```
+    pub fn page(
+        &mut self,
+        keys: impl RangeBounds<u64>,
+        most: usize,
+    ) -> Result<Page, TransactError> {
+        let mut read = Vec::new();
+        let mut rows = Vec::new();
+        read.try_reserve_exact(most).map_err(|_| Memory)?;
+        rows.try_reserve_exact(most).map_err(|_| Memory)?;
+        read.resize(most, raw::Row::default());
+        match self.open.page(Keys::of(&keys), &mut read) {
+            (raw::OK, end) => {
+                rows.extend(read.iter().filter_map(pair));
+                Ok(Page { rows, next: end.more.then_some(end.next) })
+            }
+            (code, _) => Err(TransactError::of(code)),
+        }
+    }
+
+    /// Notes a write of the value at the key.
+    ///
+    /// # Errors
+    ///
+    /// [`TransactError::Memory`].
+    ///
+    /// ```
+    /// # use cupolanettle::{Error, Options};
+    /// # let store = Options::new().keys(1_000).open()?;
+    /// # let caller = store.caller()?;
+    /// caller.transact(|t| t.put(7, [70, 71]).map_err(Error::from))?;
+    /// assert_eq!(caller.get(7), Some([70, 71].into()));
+    /// # Ok::<(), Error>(())
+    /// ```
+    #[doc(alias("insert", "set"))]
+    pub fn put(&mut self, key: u64, value: impl Into<Value>) -> Result<(), TransactError> {
+        noted(self.open.put(key, &value.into()))
+    }
+
+    /// Notes the removal of the key.
+    ///
+    /// # Errors
+    ///
+    /// [`TransactError::Memory`].
+    ///
+    /// ```
+    /// # use cupolanettle::{Error, Options};
+    /// # let store = Options::new().keys(1_000).open()?;
+    /// # let caller = store.caller()?;
+    /// caller.put(7, 70)?;
+    /// caller.transact(|t| t.remove(7).map_err(Error::from))?;
+    /// assert_eq!(caller.get(7), None);
+    /// # Ok::<(), Error>(())
+    /// ```
+    #[doc(alias("delete"))]
+    pub fn remove(&mut self, key: u64) -> Result<(), TransactError> {
+        noted(self.open.remove(key))
+    }
+
+    /// Reads the key, adds to its word, which counts as 0 if it has no value, and notes the sum.
+    /// The answer is the sum; or `None`, and nothing was noted, if the value has several words or
+    /// the sum passes 2^64 - 1.
+    ///
+    /// # Errors
+    ///
+    /// [`TransactError::NoSeat`], [`TransactError::Memory`].
+    ///
+    /// ```
+    /// # use cupolanettle::{Error, Options};
+    /// # let store = Options::new().keys(1_000).open()?;
+    /// # let caller = store.caller()?;
+    /// let sum = caller.transact(|t| {
+    ///     t.add(7, 5)?;
+    ///     Ok::<_, Error>(t.add(7, 1)?)
+    /// })?;
+    /// assert_eq!((sum, caller.get(7)), (Some(6), Some(6.into())));
+    /// # Ok::<(), Error>(())
+    /// ```
+    #[doc(alias("increment"))]
+    pub fn add(&mut self, key: u64, by: u64) -> Result<Option<u64>, TransactError> {
+        match self.open.add(key, by) {
+            (raw::OK, changed) => Ok(Some(changed.after.words[0])),
+            (raw::KEPT, _) => Ok(None),
+            (code, _) => Err(TransactError::of(code)),
+        }
+    }
+
+    /// Makes its writes: whether nothing that it read has changed.
+    pub(crate) fn commit(&mut self) -> Result<Result<(), Conflict>, TransactError> {
+        match self.open.commit() {
+            raw::OK => Ok(Ok(())),
+            raw::CONFLICT => Ok(Err(Conflict)),
+            code => Err(TransactError::of(code)),
+        }
+    }
+}
+
+fn noted(code: Code) -> Result<(), TransactError> {
+    match code {
+        raw::OK => Ok(()),
+        code => Err(TransactError::of(code)),
+    }
+}
+
+impl fmt::Debug for Transaction<'_> {
+    fn fmt(&self, f: &mut fmt::Formatter<'_>) -> fmt::Result {
+        f.debug_struct("Transaction").finish_non_exhaustive()
+    }
+}

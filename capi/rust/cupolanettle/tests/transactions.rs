@@ -1,0 +1,196 @@
+//! Transactions: what one reads of its own and of others, what ends it, and that those of several
+//! threads have the effect that they have one after another.
+use cupolanettle::{Conflict, Error, NoSeat, Options, Refused, Store, TransactError, Value};
+use std::thread;
+
+const EPOCH: usize = 64;
+const THREADS: u64 = 4;
+const ROUNDS: u64 = 300;
+
+fn small() -> Options {
+    Options::new().keys(10_000).epoch(EPOCH)
+}
+
+fn word(value: Option<Value>) -> u64 {
+    value.map_or(0, |value| value[0])
+}
+
+#[test]
+fn one_reads_what_it_wrote() -> Result<(), Error> {
+    let caller = small().open()?.caller()?;
+    caller.put(1, 10)?;
+    caller.put(2, 20)?;
+    let rows = caller.transact(|t| {
+        assert_eq!(t.get(1)?, Some(10.into()));
+        t.put(1, [11, 12])?;
+        t.remove(2)?;
+        t.put(3, 30)?;
+        assert_eq!(
+            t.get_many(&[1, 2, 3, 4])?,
+            [Some([11, 12].into()), None, Some(30.into()), None]
+        );
+        assert_eq!((t.add(3, 5)?, t.add(1, 1)?, t.add(3, u64::MAX)?), (Some(35), None, None));
+        assert_eq!(t.page(.., 1)?.next, Some(3));
+        assert!(t.page(5..5, 9)?.rows.is_empty());
+        Ok::<_, Error>(t.page(.., 9)?.rows)
+    })?;
+    assert_eq!(rows, [(1, [11, 12].into()), (3, 35.into())]);
+    assert_eq!(caller.page(.., 9)?.rows, rows);
+    Ok(())
+}
+
+#[test]
+fn one_runs_again_where_others_were_faster() -> Result<(), Error> {
+    let store = small().open()?;
+    let (caller, other) = (store.caller()?, store.caller()?);
+    let mut runs = 0;
+    let read = caller.transact(|t| {
+        let old = word(t.get(1)?);
+        t.put(2, old)?;
+        runs += 1;
+        if runs < 4 {
+            other.add(1, 10)?;
+        }
+        Ok::<_, Error>(old)
+    })?;
+    assert_eq!((runs, read, caller.get(2)), (4, 30, Some(30.into())));
+    let mut runs = 0;
+    let ended = caller.transact_up_to(3, |t| {
+        runs += 1;
+        assert_eq!(t.page(100..200, 9)?.rows.len(), runs - 1);
+        t.put(2, 0)?;
+        other.put(100 + runs as u64, 1).unwrap(); // a phantom
+        Ok::<_, TransactError>(())
+    });
+    assert_eq!((ended, runs), (Err(TransactError::Conflict), 3));
+    assert_eq!(caller.get(2), Some(30.into()));
+    // One that writes nothing reads one moment, and runs once.
+    let seen = caller.transact_up_to(1, |t| {
+        let first = t.get(1)?;
+        other.add(1, 1)?;
+        Ok::<_, Error>(first == t.get_many(&[1])?[0])
+    })?;
+    assert!(seen);
+    Ok(())
+}
+
+#[test]
+fn an_error_writes_nothing() -> Result<(), Error> {
+    let store = small().open()?;
+    let caller = store.caller()?;
+    let ended = caller.transact(|t| {
+        t.put(1, 10)?;
+        t.get(2)?;
+        Err::<(), Error>(Error::Refused(Refused::Worn))
+    });
+    assert_eq!((ended, caller.get(1)), (Err(Error::Refused(Refused::Worn)), None));
+    let panicked = thread::scope(|scope| {
+        let caller = store.caller().unwrap();
+        let run = move || {
+            caller.transact(|t| {
+                t.put(1, 10)?;
+                t.get(2)?;
+                assert!(t.get(1)?.is_none(), "it has a value");
+                Ok::<_, Error>(())
+            })
+        };
+        scope.spawn(run).join().is_err()
+    });
+    assert!(panicked && caller.get(1).is_none());
+    assert_eq!(store.stats().snapshots, 0);
+    Ok(())
+}
+
+#[test]
+fn refusals() -> Result<(), Error> {
+    let store = small().open()?;
+    let caller = store.caller()?;
+    let long = caller.transact(|t| (0..=EPOCH as u64).try_for_each(|key| t.put(key, 0)));
+    assert_eq!((long, caller.is_empty()), (Err(TransactError::TooLong), true));
+    let callers: Vec<_> = (1..64).map(|_| store.caller()).collect::<Result<_, _>>()?;
+    assert_eq!(caller.transact(|t| t.get(1)), Err(TransactError::NoSeat));
+    caller.transact(|t| t.put(1, 10))?;
+    drop(callers);
+    assert_eq!(caller.transact(|t| t.get(1))?, Some(10.into()));
+    let caller = Options::new().keys(2).epoch(4).open()?.caller()?;
+    let refused = (0..1_000).find_map(|key| caller.transact(|t| t.put(key, 0)).err());
+    assert_eq!(refused, Some(TransactError::Refused(Refused::RunFull)));
+    Ok(())
+}
+
+#[test]
+fn errors_tell_their_causes() {
+    use std::error::Error as _;
+    assert_eq!(Error::from(TransactError::Conflict), Error::Conflict(Conflict));
+    assert_eq!(Error::from(TransactError::NoSeat), Error::NoSeat(NoSeat));
+    assert_eq!(TransactError::from(NoSeat), TransactError::NoSeat);
+    let refused = TransactError::Refused(Refused::Worn);
+    assert_eq!(refused.source().unwrap().to_string(), Refused::Worn.to_string());
+    assert!(TransactError::Conflict.source().is_none());
+    for (error, text) in [
+        (
+            TransactError::Conflict,
+            "others changed what the transaction read, each time that it ran",
+        ),
+        (TransactError::TooLong, "the transaction writes more keys than an epoch has writes"),
+        (TransactError::Memory, "memory ran out"),
+        (refused, "the transaction was refused"),
+    ] {
+        assert_eq!(error.to_string(), text);
+    }
+    assert_eq!(Error::from(Conflict).to_string(), TransactError::Conflict.to_string());
+    assert_eq!(TransactError::NoSeat.to_string(), NoSeat.to_string());
+}
+
+/// Two keys of which one must stay, a counter, and a range that never has more than five keys.
+fn work(store: &Store, own: u64) -> Result<(), Error> {
+    let caller = store.caller()?;
+    for round in 0..ROUNDS {
+        caller.transact_up_to(100_000, |t| {
+            let [one, other] = t.get_many(&[10, 11])?[..] else { unreachable!() };
+            assert!(one.is_some() || other.is_some());
+            match (one, other) {
+                (Some(_), Some(_)) => t.remove(10 + (round + own) % 2)?,
+                (None, _) => t.put(10, 1)?,
+                (_, None) => t.put(11, 1)?,
+            }
+            t.add(1, 1)?;
+            Ok::<_, Error>(())
+        })?;
+        caller.transact_up_to(100_000, |t| {
+            let taken = t.page(2_000..3_000, 9)?.rows;
+            assert!(taken.len() <= 5);
+            match taken.last() {
+                Some((key, _)) if taken.len() == 5 => t.remove(*key),
+                _ => t.put(2_000 + (round * 37 + own) % 1_000, own),
+            }
+        })?;
+    }
+    Ok(())
+}
+
+fn bounds_are_kept(options: Options) -> Result<(), Error> {
+    let store = options.open()?;
+    let caller = store.caller()?;
+    caller.put(10, 1)?;
+    caller.put(11, 1)?;
+    thread::scope(|scope| {
+        for own in 0..THREADS {
+            let store = &store;
+            scope.spawn(move || work(store, own).unwrap());
+        }
+    });
+    assert_eq!(word(caller.get(1)), THREADS * ROUNDS);
+    assert!(caller.contains_key(10) || caller.contains_key(11));
+    Ok(())
+}
+
+#[test]
+fn bounds_where_a_thread_merges() -> Result<(), Error> {
+    bounds_are_kept(small())
+}
+
+#[test]
+fn bounds_where_calls_merge() -> Result<(), Error> {
+    bounds_are_kept(small().merge_in_calls())
+}
