@@ -34,7 +34,7 @@ $(T)/core: tests/core.c tests/check.h core/clsm_core.h $(OUT)/codes.o $(CORE) | 
 $(T)/example-cxx-%: examples/%.cpp clsm.h clsm.hpp $(OUT)/libclsm.a | $(T)
 	$(CXX17) -Werror -I. -o $@ $< $(OUT)/libclsm.a
 
-$(T)/example-%: examples/%.c clsm.h $(OUT)/libclsm.a | $(T)
+$(T)/example-%: examples/%.c clsm.h clsm_codec.h $(OUT)/libclsm.a | $(T)
 	$(STRICT) -I. -o $@ $< $(OUT)/libclsm.a
 
 $(T)/cxx: tests/cxx.cpp clsm.h $(OUT)/libclsm.a | $(T)
@@ -119,11 +119,11 @@ warnings:
 # ---- Runs
 
 ROUNDS = $(if $(SANITIZE),2000,20000)
-EXAMPLES = $(patsubst examples/%.c,%,$(wildcard examples/*.c))
+EXAMPLES = $(patsubst examples/%.c,example-%,$(wildcard examples/*.c)) $(patsubst examples/%.cpp,example-cxx-%,$(wildcard examples/*.cpp))
 # ThreadSanitizer has nothing to find where one thread runs.
 ALONE = $(if $(filter thread,$(SANITIZE)),,schedules)
 PROGRAMS = threads codecs refusals memory lives stack changes batch many transactions full loops cxx cxx17 core mocked mocked_many checked $(ALONE) \
-    $(EXAMPLES:%=example-%) $(EXAMPLES:%=example-cxx-%) \
+    $(EXAMPLES) \
     $(if $(SANITIZE),,shared) $(if $(filter address,$(SANITIZE)),closed) $(if $(AUDIT),audited)
 BUILT = $(PROGRAMS:%=$(T)/%)
 PLAIN = refusals memory lives stack changes batch many transactions full loops cxx cxx17 core mocked mocked_many checked $(if $(filter address,$(SANITIZE)),closed)
