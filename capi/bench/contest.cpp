@@ -54,7 +54,7 @@ bool determines_answers(const Round &round) {
 
 Contest::Contest(const Workload &workload, const Options &options, const Zipf &ranks, const Entrants &entrants)
     : workload_(workload), options_(options), ranks_(ranks), entrants_(entrants) {
-    if (workload.is_loaded) load_ = draw_load(workload.layout, options.keys);
+    if (workload.is_loaded) load_ = draw_load(workload, options.keys);
 }
 
 void Contest::play(Report &report) {
@@ -71,7 +71,7 @@ Line Contest::play_line(std::uint64_t threads) {
     for (std::uint64_t turn = 0; turn < options_.repeat; turn++) {
         Round round = draw(threads, turn);
         note_writers(round);
-        const bool changes_words = workload_.has(Act::put) || workload_.has(Act::add);
+        const bool changes_words = workload_.has(Act::put) || workload_.has(Act::add) || workload_.has(Act::transfer);
         round.mask = is_exact_ && (threads == 1 || !changes_words) ? words : tags;
         play_round(round, turn, line);
         note_inserts(round);
@@ -94,10 +94,21 @@ void Contest::play_round(const Round &round, std::uint64_t turn, Line &line) {
             answers.check(entrant, outcome.answers);
             line.answers[place] = line.answers[place].value_or(0) + outcome.answers;
         }
-        if (turn + 1 == options_.repeat) rows.check(entrant, entrant.rows(is_exact_ ? words : tags));
+        if (turn + 1 == options_.repeat) {
+            rows.check(entrant, entrant.rows(is_exact_ ? words : tags));
+            check_sum(round, entrant);
+        }
         if (workload_.is_loaded) entrant.put_back(round);
         else entrant.close();
     }
+}
+
+// Transfers keep the sum of the words.
+void Contest::check_sum(const Round &round, Entrant &entrant) const {
+    if (!workload_.has(Act::transfer)) return;
+    std::uint64_t loaded = 0;
+    for (const Step &step : load_) loaded += step.word;
+    if (entrant.sum() != loaded) throw Failure(line_of(round) + "the accounts of " + entrant.name() + " lost their sum");
 }
 
 // With room for all keys that the rounds may insert, as one call in 20 does.

@@ -21,6 +21,7 @@ public:
 private:
     Line play_line(std::uint64_t threads);
     void play_round(const Round &, std::uint64_t turn, Line &);
+    void check_sum(const Round &, Entrant &) const;
     void open(Entrant &) const;
     void note_writers(const Round &);
     void note_inserts(const Round &);

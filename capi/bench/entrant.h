@@ -27,7 +27,7 @@ struct Round {
 
 struct Outcome {
     double nanoseconds = 0;    // from the first call to the end of the last
-    std::uint64_t calls = 0;   // of a walk the rows
+    std::uint64_t calls = 0;   // of a walk the rows, of reads of many keys the keys
     std::uint64_t answers = 0; // their checksum
 };
 
@@ -48,6 +48,8 @@ public:
     virtual void put_back(const Round &) = 0;
     // The checksum of all rows.
     virtual std::uint64_t rows(std::uint64_t mask) = 0;
+    // The sum of all words, modulo 2^64.
+    virtual std::uint64_t sum() = 0;
 };
 
 // Each is null where the store's package was not installed when this was built.
@@ -55,6 +57,7 @@ std::unique_ptr<Entrant> make_clsm();
 std::unique_ptr<Entrant> make_clsm_4096(); // with epochs of so many writes
 std::unique_ptr<Entrant> make_clsm_16384();
 std::unique_ptr<Entrant> make_clsm_65536();
+std::unique_ptr<Entrant> make_clsm_plain(); // keys one by one, rows upwards
 std::unique_ptr<Entrant> make_leveldb();
 std::unique_ptr<Entrant> make_lmdb();
 std::unique_ptr<Entrant> make_tbb();

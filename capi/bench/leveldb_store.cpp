@@ -1,15 +1,18 @@
 // LevelDB in its memory environment: with its defaults, but for a Bloom filter, no compression, and a cache
-// that holds all blocks. A read-modify-write is a get and a put under one of 256 locks, the key's.
+// that holds all blocks. A read-modify-write is a get and a put under one of 256 locks, the key's; a
+// transfer is two gets and a batch under two of them.
 #include "player.h"
 
 #if __has_include(<leveldb/helpers/memenv.h>)
 
+#include <algorithm>
 #include <array>
 #include <leveldb/cache.h>
 #include <leveldb/db.h>
 #include <leveldb/env.h>
 #include <leveldb/filter_policy.h>
 #include <leveldb/helpers/memenv.h>
+#include <leveldb/write_batch.h>
 #include <mutex>
 
 namespace bench {
@@ -42,6 +45,23 @@ void check(const leveldb::Status &status) {
 
 using Locks = std::array<std::mutex, 256>;
 
+std::size_t lock_of(std::uint64_t key) { return mix(key) % std::tuple_size_v<Locks>; }
+
+// The map as it is when this is made.
+class Moment {
+public:
+    explicit Moment(leveldb::DB &db) : db_(&db) { options_.snapshot = db.GetSnapshot(); }
+    ~Moment() { db_->ReleaseSnapshot(options_.snapshot); }
+    Moment(const Moment &) = delete;
+    Moment &operator=(const Moment &) = delete;
+
+    const leveldb::ReadOptions &options() const { return options_; }
+
+private:
+    leveldb::DB *db_;
+    leveldb::ReadOptions options_;
+};
+
 class LevelCaller {
 public:
     LevelCaller(leveldb::DB &db, Locks &locks) : db_(&db), locks_(&locks) {}
@@ -50,18 +70,21 @@ public:
         check(db_->Put(leveldb::WriteOptions(), Bytes(key).slice(), Bytes(word).slice()));
     }
 
-    bool get(std::uint64_t key, std::uint64_t &word) {
-        const leveldb::Status status = db_->Get(leveldb::ReadOptions(), Bytes(key).slice(), &value_);
-        if (status.IsNotFound()) return false;
-        check(status);
-        word = number_of(value_);
-        return true;
+    bool get(std::uint64_t key, std::uint64_t &word) { return get_by(leveldb::ReadOptions(), key, word); }
+
+    template <class Visit> void get_many(const std::vector<std::uint64_t> &keys, Visit visit) {
+        const Moment moment(*db_);
+        for (const std::uint64_t key : keys) {
+            std::uint64_t word = 0;
+            const bool is_there = get_by(moment.options(), key, word);
+            visit(key, is_there, word);
+        }
     }
 
     void remove(std::uint64_t key) { check(db_->Delete(leveldb::WriteOptions(), Bytes(key).slice())); }
 
     std::uint64_t add(std::uint64_t key, std::uint64_t by) {
-        const std::lock_guard lock((*locks_)[mix(key) % locks_->size()]);
+        const std::lock_guard lock((*locks_)[lock_of(key)]);
         std::uint64_t word = 0;
         get(key, word);
         put(key, word + by);
@@ -79,7 +102,45 @@ public:
         return rows;
     }
 
+    template <class Visit> std::size_t scan_down(std::uint64_t last, std::size_t room, Visit visit) {
+        const std::unique_ptr<leveldb::Iterator> at(db_->NewIterator(leveldb::ReadOptions()));
+        at->Seek(Bytes(last).slice());
+        if (!at->Valid()) at->SeekToLast();
+        else if (number_of(at->key()) > last) at->Prev();
+        std::size_t rows = 0;
+        for (; rows < room && at->Valid(); rows++) {
+            visit(number_of(at->key()), number_of(at->value()));
+            if (rows + 1 < room) at->Prev();
+        }
+        check(at->status());
+        return rows;
+    }
+
+    // Takes the locks in their order, and one once.
+    std::pair<std::uint64_t, std::uint64_t> transfer(std::uint64_t from, std::uint64_t to, std::uint64_t by) {
+        const auto [low, high] = std::minmax({lock_of(from), lock_of(to)});
+        const std::lock_guard lock((*locks_)[low]);
+        std::unique_lock<std::mutex> other;
+        if (high != low) other = std::unique_lock((*locks_)[high]);
+        std::uint64_t giver = 0, taker = 0;
+        get(from, giver);
+        get(to, taker);
+        leveldb::WriteBatch batch;
+        batch.Put(Bytes(from).slice(), Bytes(giver - by).slice());
+        batch.Put(Bytes(to).slice(), Bytes(taker + by).slice());
+        check(db_->Write(leveldb::WriteOptions(), &batch));
+        return {giver, taker};
+    }
+
 private:
+    bool get_by(const leveldb::ReadOptions &options, std::uint64_t key, std::uint64_t &word) {
+        const leveldb::Status status = db_->Get(options, Bytes(key).slice(), &value_);
+        if (status.IsNotFound()) return false;
+        check(status);
+        word = number_of(value_);
+        return true;
+    }
+
     leveldb::DB *db_;
     Locks *locks_;
     std::string value_;
@@ -89,7 +150,7 @@ class LevelStore {
 public:
     using Caller = LevelCaller;
     static constexpr const char *name = "leveldb", *title = "LevelDB";
-    static constexpr bool removes = true;
+    static bool plays(const Workload &) { return true; }
 
     explicit LevelStore(std::size_t keys)
         : memory_(leveldb::NewMemEnv(leveldb::Env::Default())), filter_(leveldb::NewBloomFilterPolicy(10)),

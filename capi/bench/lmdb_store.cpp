@@ -90,6 +90,26 @@ public:
         return word;
     }
 
+    template <class Visit> void get_many(const std::vector<std::uint64_t> &keys, Visit visit) {
+        const Read read(reading_.get());
+        for (const std::uint64_t key : keys) {
+            std::uint64_t word = 0;
+            const bool is_there = get_in(reading_.get(), map_, key, word);
+            visit(key, is_there, word);
+        }
+    }
+
+    std::pair<std::uint64_t, std::uint64_t> transfer(std::uint64_t from, std::uint64_t to, std::uint64_t by) {
+        Owned<MDB_txn> writing = begin(env_, 0);
+        std::uint64_t giver = 0, taker = 0;
+        get_in(writing.get(), map_, from, giver);
+        get_in(writing.get(), map_, to, taker);
+        put_in(writing.get(), map_, from, giver - by);
+        put_in(writing.get(), map_, to, taker + by);
+        commit(std::move(writing));
+        return {giver, taker};
+    }
+
     template <class Visit> std::size_t scan(std::uint64_t first, std::size_t room, Visit visit) {
         const Read read(reading_.get());
         check(mdb_cursor_renew(reading_.get(), cursor_.get()));
@@ -100,6 +120,24 @@ public:
             visit(number_of(key), number_of(word));
             if (++rows == room) return rows;
             code = mdb_cursor_get(cursor_.get(), &key, &word, MDB_NEXT);
+        }
+        if (code != MDB_NOTFOUND) check(code);
+        return rows;
+    }
+
+    template <class Visit> std::size_t scan_down(std::uint64_t last, std::size_t room, Visit visit) {
+        const Read read(reading_.get());
+        check(mdb_cursor_renew(reading_.get(), cursor_.get()));
+        MDB_val key = bytes_of(last), word = {};
+        std::size_t rows = 0;
+        int code = mdb_cursor_get(cursor_.get(), &key, &word, MDB_SET_RANGE);
+        if (code == MDB_NOTFOUND) code = mdb_cursor_get(cursor_.get(), &key, &word, MDB_LAST);
+        else if (code == MDB_SUCCESS && number_of(key) > last)
+            code = mdb_cursor_get(cursor_.get(), &key, &word, MDB_PREV);
+        while (code == MDB_SUCCESS) {
+            visit(number_of(key), number_of(word));
+            if (++rows == room) return rows;
+            code = mdb_cursor_get(cursor_.get(), &key, &word, MDB_PREV);
         }
         if (code != MDB_NOTFOUND) check(code);
         return rows;
@@ -151,7 +189,7 @@ class LmdbStore {
 public:
     using Caller = LmdbCaller;
     static constexpr const char *name = "lmdb", *title = "LMDB";
-    static constexpr bool removes = true;
+    static bool plays(const Workload &) { return true; }
 
     explicit LmdbStore(std::size_t keys) {
         // While a reader stands still, no page that it may see is used again, and the file grows.

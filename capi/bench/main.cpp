@@ -24,6 +24,7 @@ Entrants entrants_of(const Options &options) {
         enter(make_clsm_4096(), "clsm-4096", options, entrants);
         enter(make_clsm_16384(), "clsm-16384", options, entrants);
         enter(make_clsm_65536(), "clsm-65536", options, entrants);
+        enter(make_clsm_plain(), "clsm-plain", options, entrants);
     }
     enter(make_leveldb(), "leveldb", options, entrants);
     enter(make_lmdb(), "lmdb", options, entrants);

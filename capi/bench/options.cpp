@@ -10,18 +10,22 @@ const char *const usage =
     "usage: bench [--workloads A,B,..] [--stores clsm,..] [--threads 1,2,4] [--keys N] [--operations N]\n"
     "             [--repeat R] [--csv FILE]\n"
     "\n"
-    "Prints a Markdown table of the nanoseconds of a call, or of a row for readseq: the median of the\n"
-    "runs. That is wall time, divided by the calls of all threads. In brackets are the least and the\n"
-    "greatest of the runs, for the first store of its times, for the others of the ratio of their time\n"
-    "to the first store's in the same run: above 1 the first one is faster. Ends with 1 if the stores'\n"
-    "answers differ where they must not.\n"
+    "Prints a Markdown table of the nanoseconds of a call, of a row for readseq, of a key for multiget:\n"
+    "the median of the runs. That is wall time, divided by the calls of all threads. In brackets are the\n"
+    "least and the greatest of the runs, for the first store of its times, for the others of the ratio\n"
+    "of their time to the first store's in the same run: above 1 the first one is faster. Ends with 1 if\n"
+    "the stores' answers differ where they must not.\n"
     "\n"
     "--workloads   A, B, C, D, E, F of YCSB; fillseq, fillrandom, overwrite, readrandom, readhot,\n"
     "              readmissing, readseq, seekrandom, deleterandom, readwhilewriting and\n"
-    "              readwhilescanning of db_bench; border, the least time of a call through C. Default: all.\n"
+    "              readwhilescanning of db_bench; multiget, 16 keys at one time; transfers from one key\n"
+    "              to another, which keep the sum of all words; readreverse, 16 rows from a key down;\n"
+    "              seeklast, the last row up to a key that is not there; border, the least time of a call\n"
+    "              through C. Default: all.\n"
     "              And waits, how long single calls take beside what makes them wait\n"
     "--stores      clsm, leveldb, lmdb, tbb, map. Default: all that were installed when this was built.\n"
-    "              And clsm-4096, clsm-16384, clsm-65536: with epochs of so many writes\n"
+    "              And clsm-4096, clsm-16384, clsm-65536: with epochs of so many writes; clsm-plain:\n"
+    "              multiget by 16 gets one by one, and readreverse by the same 16 rows upwards\n"
     "--threads     how many threads call, 1 to 32 each. Default: 1,2,4\n"
     "--keys        loaded before each workload but the fills, 100 to 4,000,000. Default: 1,000,000\n"
     "--operations  calls of all threads in a run, 100 to 16,000,000. Default: 200,000\n"
@@ -60,7 +64,7 @@ std::vector<std::string> names_of(const std::string &option, const std::string &
 }
 
 const std::vector<std::string> store_names = {"clsm", "clsm-4096", "clsm-16384", "clsm-65536",
-                                              "leveldb", "lmdb", "tbb", "map"};
+                                              "clsm-plain", "leveldb", "lmdb", "tbb", "map"};
 
 std::vector<std::string> workload_names() {
     std::vector<std::string> names = {"border", "waits"};

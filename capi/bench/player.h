@@ -3,7 +3,7 @@
 // An adapter is a class Store with
 //
 //     static constexpr const char *name, *title;
-//     static constexpr bool removes;                  beside other calls
+//     static bool plays(const Workload &);            whether it has these calls, beside others
 //     explicit Store(std::size_t keys);               empty, with room for so many
 //     Caller caller();
 //
@@ -15,6 +15,12 @@
 //     std::uint64_t add(key, by);                     the word before; in one step
 //     template <class Visit> std::size_t scan(first, room, Visit visit);
 //                                                     visit(key, word) of the next rows, and their number
+//     template <class Visit> std::size_t scan_down(last, room, Visit visit);
+//                                                     the same of the rows from last down
+//     template <class Visit> void get_many(keys, Visit visit);
+//                                                     visit(key, is_there, word) of each, at one time
+//     std::pair<std::uint64_t, std::uint64_t> transfer(from, to, by);
+//                                                     the words before; in one step
 //
 // all of which throw a Failure if they fail.
 #ifndef CLSM_BENCH_PLAYER_H
@@ -117,13 +123,28 @@ private:
         case Act::walk: return walk();
         case Act::insert: return insert();
         case Act::get_recent: return get_recent(step.key);
+        case Act::get_many: return ask(step.key);
+        case Act::scan_down: return scan_down(step.key);
+        case Act::transfer: return transfer(step.key, step.word);
         }
+    }
+
+    void note(std::uint64_t key, bool is_there, std::uint64_t word) {
+        if (is_there) sum_.add(key, word);
+        else sum_.add_none(key);
     }
 
     void get(std::uint64_t key) {
         std::uint64_t word = 0;
-        if (caller_.get(key, word)) sum_.add(key, word);
-        else sum_.add_none(key);
+        const bool is_there = caller_.get(key, word);
+        note(key, is_there, word);
+    }
+
+    void ask(std::uint64_t key) {
+        asked_.push_back(key);
+        if (asked_.size() < field_.round.workload->rows) return;
+        caller_.get_many(asked_, [this](std::uint64_t of, bool is_there, std::uint64_t word) { note(of, is_there, word); });
+        asked_.clear();
     }
 
     std::size_t scan(std::uint64_t first) {
@@ -131,6 +152,17 @@ private:
             sum_.add(key, word);
             last_ = key;
         });
+    }
+
+    void scan_down(std::uint64_t last) {
+        caller_.scan_down(last, field_.round.workload->rows,
+                          [this](std::uint64_t key, std::uint64_t word) { sum_.add(key, word); });
+    }
+
+    void transfer(std::uint64_t from, std::uint64_t to) {
+        const auto [giver, taker] = caller_.transfer(from, to, 1);
+        sum_.add(from, giver);
+        sum_.add(to, taker);
     }
 
     void walk() {
@@ -154,13 +186,14 @@ private:
     Field &field_;
     Sum sum_;
     std::uint64_t place_ = 0, last_ = 0, rows_walked_ = 0;
+    std::vector<std::uint64_t> asked_;
 };
 
 template <class Store> class EntrantOf final : public Entrant {
 public:
     const char *name() const override { return Store::name; }
     const char *title() const override { return Store::title; }
-    bool plays(const Workload &workload) const override { return Store::removes || !workload.has(Act::remove); }
+    bool plays(const Workload &workload) const override { return Store::plays(workload); }
     void open(std::size_t keys) override { store_.emplace(keys); }
     void close() override { store_.reset(); }
 
@@ -197,20 +230,30 @@ public:
     }
 
     std::uint64_t rows(std::uint64_t mask) override {
-        constexpr std::size_t room = 1000;
-        auto caller = store_->caller();
         Sum sum(mask);
-        std::uint64_t first = 0;
-        const auto visit = [&sum, &first](std::uint64_t key, std::uint64_t word) {
-            sum.add(key, word);
-            first = key + 1;
-        };
-        while (caller.scan(first, room, visit) == room) {}
+        each_row([&sum](std::uint64_t key, std::uint64_t word) { sum.add(key, word); });
         return sum.total();
+    }
+
+    std::uint64_t sum() override {
+        std::uint64_t total = 0;
+        each_row([&total](std::uint64_t, std::uint64_t word) { total += word; });
+        return total;
     }
 
 private:
     using Caller = typename Store::Caller;
+
+    template <class Visit> void each_row(Visit visit) {
+        constexpr std::size_t room = 1000;
+        auto caller = store_->caller();
+        std::uint64_t first = 0;
+        const auto pass = [&visit, &first](std::uint64_t key, std::uint64_t word) {
+            visit(key, word);
+            first = key + 1;
+        };
+        while (caller.scan(first, room, pass) == room) {}
+    }
 
     static Outcome outcome_of(std::vector<std::future<Played>> &shares) {
         Outcome outcome;

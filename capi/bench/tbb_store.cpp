@@ -1,4 +1,5 @@
-// concurrent_map of oneTBB, a skip list, with atomic words.
+// concurrent_map of oneTBB, a skip list, with atomic words. Several keys are read one after another,
+// at no moment in common.
 #include "player.h"
 
 #if __has_include(<oneapi/tbb/concurrent_map.h>)
@@ -37,6 +38,22 @@ public:
         return at->second.fetch_add(by);
     }
 
+    template <class Visit> void get_many(const std::vector<std::uint64_t> &keys, Visit visit) {
+        for (const std::uint64_t key : keys) {
+            std::uint64_t word = 0;
+            const bool is_there = get(key, word);
+            visit(key, is_there, word);
+        }
+    }
+
+    template <class Visit> std::size_t scan_down(std::uint64_t, std::size_t, Visit) {
+        throw Failure("tbb: no rows by falling key");
+    }
+
+    std::pair<std::uint64_t, std::uint64_t> transfer(std::uint64_t, std::uint64_t, std::uint64_t) {
+        throw Failure("tbb: no two words in one step");
+    }
+
     template <class Visit> std::size_t scan(std::uint64_t first, std::size_t room, Visit visit) {
         std::size_t rows = 0;
         for (auto at = map_->lower_bound(first); at != map_->end() && rows < room; ++at, rows++)
@@ -52,7 +69,10 @@ class TbbStore {
 public:
     using Caller = TbbCaller;
     static constexpr const char *name = "tbb", *title = "oneTBB";
-    static constexpr bool removes = false;
+
+    static bool plays(const Workload &workload) {
+        return !workload.has(Act::remove) && !workload.has(Act::scan_down) && !workload.has(Act::transfer);
+    }
 
     explicit TbbStore(std::size_t) {}
 

@@ -10,7 +10,7 @@ namespace {
 constexpr Share nothing = {Act::get, 0};
 constexpr std::size_t beside_steps = 65536;
 
-// YCSB's A to F, then those of db_bench.
+// YCSB's A to F, then those of db_bench, then others.
 const std::vector<Workload> table = {
     {"A", {Act::get, 50}, {Act::put, 50}, Draw::zipf, Layout::scattered, true, 0, Beside::nobody},
     {"B", {Act::get, 95}, {Act::put, 5}, Draw::zipf, Layout::scattered, true, 0, Beside::nobody},
@@ -29,6 +29,10 @@ const std::vector<Workload> table = {
     {"deleterandom", {Act::remove, 100}, nothing, Draw::uniform, Layout::dense, true, 0, Beside::nobody},
     {"readwhilewriting", {Act::get, 100}, nothing, Draw::uniform, Layout::dense, true, 0, Beside::writer},
     {"readwhilescanning", {Act::get, 100}, nothing, Draw::uniform, Layout::dense, true, 1000, Beside::scanner},
+    {"multiget", {Act::get_many, 100}, nothing, Draw::uniform, Layout::dense, true, 16, Beside::nobody},
+    {"transfers", {Act::transfer, 100}, nothing, Draw::uniform, Layout::dense, true, 0, Beside::nobody},
+    {"readreverse", {Act::scan_down, 100}, nothing, Draw::uniform, Layout::dense, true, 16, Beside::nobody},
+    {"seeklast", {Act::scan_down, 100}, nothing, Draw::missing, Layout::dense, true, 1, Beside::nobody},
 };
 
 std::uint64_t draw_index(Draw draw, const Zipf &ranks, std::uint64_t keys, const Part &part, std::uint64_t i,
@@ -44,11 +48,23 @@ std::uint64_t draw_index(Draw draw, const Zipf &ranks, std::uint64_t keys, const
     return 0;
 }
 
-Step draw_step(const Workload &workload, std::uint64_t index, std::uint64_t version, Random &random) {
+// How many steps make so many calls, walk so many rows, or read so many keys: full walks and reads.
+std::size_t steps_of(const Workload &workload, std::size_t calls) {
+    if (workload.has(Act::walk)) return (calls + workload.rows - 1) / workload.rows;
+    if (workload.has(Act::get_many)) return (calls + workload.rows - 1) / workload.rows * workload.rows;
+    return calls;
+}
+
+Step draw_step(const Workload &workload, std::uint64_t keys, std::uint64_t index, std::uint64_t version,
+               Random &random) {
     const Share &share = random.below(100) < workload.first.percent ? workload.first : workload.second;
     if (share.act == Act::get_recent) return {index, 0, share.act};
     const std::uint64_t key = key_of(workload.layout, index);
     if (workload.draw == Draw::missing) return {key + 1, 0, share.act};
+    if (share.act == Act::transfer) {
+        const std::uint64_t other = (index + 1 + random.below(keys - 1)) % keys;
+        return {key, key_of(workload.layout, other), share.act};
+    }
     return {key, word_of(key, version), share.act};
 }
 
@@ -61,26 +77,26 @@ bool Workload::has(Act act) const {
 const std::vector<Workload> &all_workloads() { return table; }
 
 std::vector<Step> draw_steps(const Workload &workload, const Zipf &ranks, std::uint64_t keys, const Part &part) {
-    const bool walks = workload.has(Act::walk);
-    const std::size_t calls = walks ? (part.calls + workload.rows - 1) / workload.rows : part.calls;
+    const std::size_t calls = steps_of(workload, part.calls);
     Random random(part.seed + part.thread);
     std::vector<Step> steps;
     steps.reserve(calls);
     for (std::uint64_t i = 0; i < calls; i++) {
         const std::uint64_t index = draw_index(workload.draw, ranks, keys, part, i, random);
-        steps.push_back(draw_step(workload, index, i + 1, random));
+        steps.push_back(draw_step(workload, keys, index, i + 1, random));
     }
     // A walk begins at the thread's part of the keys.
-    if (walks && !steps.empty()) steps[0].key = key_of(workload.layout, keys * part.thread / part.threads);
+    if (workload.has(Act::walk) && !steps.empty()) steps[0].key = key_of(workload.layout, keys * part.thread / part.threads);
     return steps;
 }
 
-std::vector<Step> draw_load(Layout layout, std::uint64_t keys) {
+std::vector<Step> draw_load(const Workload &workload, std::uint64_t keys) {
+    const std::uint64_t version = workload.has(Act::transfer) ? balance : 0;
     std::vector<Step> steps;
     steps.reserve(keys);
     for (std::uint64_t i = 0; i < keys; i++) {
-        const std::uint64_t key = key_of(layout, i);
-        steps.push_back({key, word_of(key, 0), Act::put});
+        const std::uint64_t key = key_of(workload.layout, i);
+        steps.push_back({key, word_of(key, version), Act::put});
     }
     Random random(keys);
     for (std::uint64_t i = keys; i > 1; i--) std::swap(steps[i - 1], steps[random.below(i)]);
