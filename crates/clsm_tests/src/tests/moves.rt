@@ -4,6 +4,7 @@ use clsm_store::{
     BatchIfError, Bound, Caller, Change, Condition, Config, Free, Got, Opened, TryBatchIfError,
     open,
 };
+use std::alloc::Global;
 use std::process::Abort;
 use std::sync::Wait;
 use std::test::*;
@@ -42,7 +43,7 @@ fn amount_of(got: &Got) -> u64 {
 
 /// Moves one from an account to the next, once what it read of both still stands.
 fn move_one<R: Abort + Wait>(rt: &R, caller: &mut Caller<'_, Free>, from: u64) {
-    let to = (from + 1) % ACCOUNTS;
+    let to = from.wrapping_add(1) % ACCOUNTS;
     for _ in rt.forever() {
         let rich = amount_of(&caller.get(from));
         let poor = amount_of(&caller.get(to));
@@ -65,8 +66,8 @@ fn move_one<R: Abort + Wait>(rt: &R, caller: &mut Caller<'_, Free>, from: u64) {
 }
 
 /// The sum of all accounts, as one scan finds it.
-fn sum<R: Abort + AllocGlobal>(rt: &R, caller: &mut Caller<'_, Free>) -> u64 {
-    let scan = caller.scan(rt.alloc(), 0, ACCOUNTS).expect(rt, "memory");
+fn sum(rt: &impl Abort, alloc: Global, caller: &mut Caller<'_, Free>) -> u64 {
+    let scan = caller.scan(alloc, 0, ACCOUNTS).expect(rt, "memory");
     let mut sum = 0_u64;
     for (_, value) in scan.rows.as_slice() {
         sum = sum.wrapping_add(value.first());
@@ -85,9 +86,10 @@ fn moves_keep_the_sum(rt: HostRuntime) {
     } = opened.expect(&rt, "memory");
     let bound = store.bind(rt.alloc(), seats, merger);
     let Bound { mut callers, .. } = bound.expect(&rt, "memory");
+    let caller = callers.first_mut().expect(&rt, "a caller");
     for account in 0..ACCOUNTS {
-        let first = callers[0].batch_if(&rt, &[], &[set(account, FIRST)]);
-        assert_eq!(&rt; first, Ok(account));
+        let first = caller.batch_if(&rt, &[], &[set(account, FIRST)]);
+        assert_eq!(rt; first, Ok(account));
     }
     thread::for_each_mut(
         &rt,
@@ -95,13 +97,14 @@ fn moves_keep_the_sum(rt: HostRuntime) {
         8,
         &|place, caller| {
             for turn in 0..MOVES {
-                move_one(&rt, caller, turn.wrapping_mul(place as u64 + 1) % ACCOUNTS);
-                assert_eq!(&rt; sum(&rt, caller), ACCOUNTS * FIRST);
+                let from = turn.wrapping_mul(place as u64 | 1) % ACCOUNTS;
+                move_one(&rt, caller, from);
+                assert_eq!(rt; sum(&rt, rt.alloc(), caller), ACCOUNTS * FIRST);
             }
         },
     );
     for caller in &mut callers {
-        assert_eq!(&rt; sum(&rt, caller), ACCOUNTS * FIRST);
+        assert_eq!(rt; sum(&rt, rt.alloc(), caller), ACCOUNTS * FIRST);
     }
 }
 
@@ -116,7 +119,7 @@ fn conditions_are_tested_in_order(rt: HostRuntime) {
     } = opened.expect(&rt, "memory");
     let bound = store.bind(rt.alloc(), seats, merger);
     let Bound { mut callers, .. } = bound.expect(&rt, "memory");
-    let caller = &mut callers[0];
+    let caller = callers.first_mut().expect(&rt, "a caller");
     let none = Condition::Has(7, None);
     let two = Condition::Counts {
         lo: 5,
@@ -124,30 +127,30 @@ fn conditions_are_tested_in_order(rt: HostRuntime) {
         keys: 2,
     };
     let both = [set(5, 50), set(7, 70)];
-    assert_eq!(&rt; caller.try_batch_if(&[none], &[]), Ok(0));
-    assert_eq!(&rt; caller.try_batch_if(&[none], &both), Ok(0));
+    assert_eq!(rt; caller.try_batch_if(&[none], &[]), Ok(0));
+    assert_eq!(rt; caller.try_batch_if(&[none], &both), Ok(0));
     let unmet = BatchIfError::Unmet { index: 1, time: 2 };
-    assert_eq!(&rt;
+    assert_eq!(rt;
         caller.batch_if(&rt, &[two, none, has(5, 0)], &both),
         Err(unmet)
     );
-    assert_eq!(&rt; caller.get(5).value, Some(value_of(50)));
-    assert_eq!(&rt; caller.batch_if(&rt, &[two, has(7, 70)], &[]), Ok(2));
+    assert_eq!(rt; caller.get(5).value, Some(value_of(50)));
+    assert_eq!(rt; caller.batch_if(&rt, &[two, has(7, 70)], &[]), Ok(2));
     let nine = [set(1, 1); 9];
     let long = TryBatchIfError::Refused(BatchIfError::TooLong);
-    assert_eq!(&rt; caller.try_batch_if(&[none], &nine), Err(long));
-    assert_eq!(&rt;
+    assert_eq!(rt; caller.try_batch_if(&[none], &nine), Err(long));
+    assert_eq!(rt;
         caller.batch_if(&rt, &[none], &[(1, Change::Keep)]),
         Err(BatchIfError::Keep)
     );
     let full = BatchIfError::Full { time: 2 };
-    assert_eq!(&rt; caller.batch_if(&rt, &[two], &nine[..7]), Err(full));
-    assert_eq!(&rt;
+    assert_eq!(rt; caller.batch_if(&rt, &[two], &nine[..7]), Err(full));
+    assert_eq!(rt;
         caller.batch_if(&rt, &[none], &nine[..7]),
         Err(BatchIfError::Unmet { index: 0, time: 2 })
     );
-    assert_eq!(&rt; caller.batch_if(&rt, &[two], &[(5, Change::Remove)]), Ok(2));
-    assert_eq!(&rt;
+    assert_eq!(rt; caller.batch_if(&rt, &[two], &[(5, Change::Remove)]), Ok(2));
+    assert_eq!(rt;
         caller.batch_if(&rt, &[Condition::Has(5, None)], &nine[..5]),
         Ok(3)
     );
