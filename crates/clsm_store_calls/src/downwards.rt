@@ -18,13 +18,11 @@ use clsm_scan::{Bounds, Filling, ReadPoint, Row, scan_down};
 use clsm_words::{Pace, RawSeat, Words};
 use std::alloc::Global;
 
-/// A page downwards of the keys within the bounds: the rows that it fills, and what its record
-/// needs.
-#[derive(Drop)]
-pub struct PageDown<'a, R> {
+/// What a page downwards is of: the keys within the bounds; and what its record needs.
+#[derive(Clone, Copy)]
+pub struct PageDown {
     pub alloc: Global,
     pub bounds: Bounds,
-    pub filling: Filling<'a, R>,
 }
 
 /// The answer of a page downwards, beside the rows that it filled: its time, the first key of the
@@ -64,25 +62,25 @@ fn page_below<P: Pace, R: Row>(
     words: &Words<P>,
     seat: &mut RawSeat,
     point: ReadPoint,
-    page: &mut PageDown<'_, R>,
+    page: PageDown,
+    filling: &mut Filling<'_, R>,
 ) -> (PagedDown, End)
     requires of { IsSeatOf words.now seat.old }
     requires may { MayReadBelow seat.old.knows point.component point.until }
-    requires none { page.old.filling.count ≡ 0 }
+    requires none { filling.old.count ≡ 0 }
     ensures of { IsSeatOf words.now seat.new }
     ensures looks { Looks seat.old.knows seat.new.knows }
     ensures time { result.0.time ≡ point.until }
-    ensures bounds { page.new.bounds ≡ page.old.bounds }
-    ensures ready { AreFilled R.is_row page.new.filling.rows.now page.new.filling.count }
-    ensures goes_on { FillsOn page.old.filling.rows 0 page.new.filling.rows page.new.filling.count }
-    ensures page { IsPageDown (plain seat.old.knows.past) point.until page.old.bounds.lo page.old.bounds.hi (length page.old.filling.rows.now)
-        (map R.pair (take page.new.filling.count page.new.filling.rows.now)) result.0.more }
-    ensures reads { Reads (plain seat.old.knows.past) point.until (page_deed page.old.bounds.lo page.old.bounds.hi 0 [] result.0.first) }
-    ensures end { result.1 ≡ Recorded (page_deed page.old.bounds.lo page.old.bounds.hi 0 [] result.0.first) }
+    ensures ready { AreFilled R.is_row filling.new.rows.now filling.new.count }
+    ensures goes_on { FillsOn filling.old.rows 0 filling.new.rows filling.new.count }
+    ensures page { IsPageDown (plain seat.old.knows.past) point.until page.bounds.lo page.bounds.hi (length filling.old.rows.now)
+        (map R.pair (take filling.new.count filling.new.rows.now)) result.0.more }
+    ensures reads { Reads (plain seat.old.knows.past) point.until (page_deed page.bounds.lo page.bounds.hi 0 [] result.0.first) }
+    ensures end { result.1 ≡ Recorded (page_deed page.bounds.lo page.bounds.hi 0 [] result.0.first) }
 {
     let bounds = page.bounds;
     seat.show_invariant();
-    let more = scan_down(words, seat, point, bounds, &mut page.filling);
+    let more = scan_down(words, seat, point, bounds, filling);
     let first = first_below(words, seat, point, bounds);
     let time = point.until;
     (
@@ -96,20 +94,21 @@ pub fn page_down_at<P: Pace, R: Row>(
     words: &Words<P>,
     seat: &mut RawSeat,
     pin_word: u64,
-    page: &mut PageDown<'_, R>,
+    page: PageDown,
+    filling: &mut Filling<'_, R>,
 ) -> PagedDown
     requires rests { RestsAt words.now seat.old pin_word }
     requires closed { open_time seat.old.knows.view.snapshot ≡ None }
-    requires none { page.old.filling.count ≡ 0 }
+    requires none { filling.old.count ≡ 0 }
     ensures rests { RestsAt words.now seat.new (next_word (next_word pin_word)) }
-    ensures reads { ReadsAt seat.old.knows seat.new.knows result.time (page_deed page.old.bounds.lo page.old.bounds.hi 0 [] result.first) }
-    ensures ready { AreFilled R.is_row page.new.filling.rows.now page.new.filling.count }
-    ensures goes_on { FillsOn page.old.filling.rows 0 page.new.filling.rows page.new.filling.count }
-    ensures page { IsPageDown (plain seat.new.knows.past) result.time page.old.bounds.lo page.old.bounds.hi (length page.old.filling.rows.now)
-        (map R.pair (take page.new.filling.count page.new.filling.rows.now)) result.more }
+    ensures reads { ReadsAt seat.old.knows seat.new.knows result.time (page_deed page.bounds.lo page.bounds.hi 0 [] result.first) }
+    ensures ready { AreFilled R.is_row filling.new.rows.now filling.new.count }
+    ensures goes_on { FillsOn filling.old.rows 0 filling.new.rows filling.new.count }
+    ensures page { IsPageDown (plain seat.new.knows.past) result.time page.bounds.lo page.bounds.hi (length filling.old.rows.now)
+        (map R.pair (take filling.new.count filling.new.rows.now)) result.more }
 {
     let point = begin(words, seat, pin_word);
-    let (paged, end) = page_below(words, seat, point, page);
+    let (paged, end) = page_below(words, seat, point, page, filling);
     unpin(words, seat, pin_word.wrapping_add(1), &end);
     paged
 }
@@ -119,21 +118,22 @@ pub fn page_down_under<P: Pace, R: Row>(
     words: &Words<P>,
     seat: &mut RawSeat,
     snapshot: OpenSnapshot,
-    page: &mut PageDown<'_, R>,
+    page: PageDown,
+    filling: &mut Filling<'_, R>,
 ) -> PagedDown
     requires rests { RestsAt words.now seat.old snapshot.pin_word }
     requires opened { open_time seat.old.knows.view.snapshot ≡ Some snapshot.time }
-    requires none { page.old.filling.count ≡ 0 }
+    requires none { filling.old.count ≡ 0 }
     ensures rests { RestsAt words.now seat.new (next_word (next_word snapshot.pin_word)) }
     ensures time { result.time ≡ snapshot.time }
-    ensures reads { ReadsUnder seat.old.knows seat.new.knows snapshot.time (page_deed page.old.bounds.lo page.old.bounds.hi 0 [] result.first) }
-    ensures ready { AreFilled R.is_row page.new.filling.rows.now page.new.filling.count }
-    ensures goes_on { FillsOn page.old.filling.rows 0 page.new.filling.rows page.new.filling.count }
-    ensures page { IsPageDown (plain seat.new.knows.past) result.time page.old.bounds.lo page.old.bounds.hi (length page.old.filling.rows.now)
-        (map R.pair (take page.new.filling.count page.new.filling.rows.now)) result.more }
+    ensures reads { ReadsUnder seat.old.knows seat.new.knows snapshot.time (page_deed page.bounds.lo page.bounds.hi 0 [] result.first) }
+    ensures ready { AreFilled R.is_row filling.new.rows.now filling.new.count }
+    ensures goes_on { FillsOn filling.old.rows 0 filling.new.rows filling.new.count }
+    ensures page { IsPageDown (plain seat.new.knows.past) result.time page.bounds.lo page.bounds.hi (length filling.old.rows.now)
+        (map R.pair (take filling.new.count filling.new.rows.now)) result.more }
 {
     let point = begin_under(words, seat, snapshot);
-    let (paged, end) = page_below(words, seat, point, page);
+    let (paged, end) = page_below(words, seat, point, page, filling);
     unpin(words, seat, snapshot.pin_word.wrapping_add(1), &end);
     paged
 }

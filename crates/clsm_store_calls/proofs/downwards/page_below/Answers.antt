@@ -12,10 +12,10 @@ returns-clause-page g c =
     let h = plain k.past in
     let component = c.args.point.component in
     let until = c.args.point.until in
-    let page = c.args.page.now in
+    let page = c.args.page in
     let lo = page.bounds.lo in
     let hi = page.bounds.hi in
-    let max = length page.filling.rows.now in
+    let max = length c.args.filling.now.rows.now in
     let rows = map g.R.Row.pair (take c.scan_down-more.new.filling.count c.scan_down-more.new.filling.rows.now) in
     page_down h until lo hi max rows c.scan_down-more.result
     (down_same (left_at (found_in_component k component until)) (λ key. value h key until) lo hi max rows c.scan_down-more.result
