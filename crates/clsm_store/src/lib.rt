@@ -5,6 +5,7 @@ mod binding;
 mod caller;
 mod calls;
 mod changes;
+mod downwards;
 mod freezing;
 mod many;
 mod meet;
