@@ -5,3 +5,4 @@ mod Chained
 mod Joint
 mod SweepParts
 mod Visits
+mod PagesDown

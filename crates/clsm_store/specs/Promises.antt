@@ -41,6 +41,7 @@ use Rattle.clsm_store_calls.specs.Agreeing.{AgreesWith}
 use Rattle.clsm_store_calls.specs.Batching.{CountsBatch, CountsTryBatch, IsRefusedBatch, IsRefusedTryBatch}
 use Rattle.clsm_store_calls.specs.Changing.{CountsTryChange, changed_at}
 use Rattle.clsm_store_calls.specs.Conditional.{AnswersIf, AreWritable, CountsBatchIf, CountsTryBatchIf, IsRefusedBatchIf, IsRefusedTryBatchIf, MeetsAll}
+use Rattle.clsm_store_calls.specs.Downwards.{ReadsDown}
 use Rattle.clsm_store_calls.specs.Looking.{IsKeptOut}
 use Rattle.clsm_store_calls.specs.Many.{HoldValues}
 use Rattle.clsm_store_calls.specs.Merging.{IsRunFull, TakesFloor}
@@ -314,6 +315,18 @@ pub record VisitsRange {F : Type 0} (Calls : F → Pair → F → Type 0) (IsCal
   pub callable : IsCallable after
   -- as get
   pub lock : TakesNoLock old.tally new.tally
+
+-- page_down_into; `pair` and `IsRow` as in page_into
+pub record FillsPageDown {R : Type 0} (pair : R → Pair) (IsRow : R → Type 0) (old new : SeatState) (lo hi : ℕ) (before after : List R)
+    (result : Filled) : Type 0 where
+  -- the filled rows are the greatest keys by falling key, and `more` is the next; recorded as count
+  pub reads : ReadsDown old new result.time lo hi (length before) (map pair (take result.rows after)) result.more
+  -- as get
+  pub lock : TakesNoLock old.tally new.tally
+  -- as page_into
+  pub filled : AreFilled IsRow after result.rows
+  -- as page_into
+  pub rest : drop result.rows after ≡ drop result.rows before
 
 -- ---- how seats come to know of one another
 

@@ -6,6 +6,7 @@ mod caller;
 mod calls;
 mod changes;
 mod conditional;
+mod downwards;
 mod freezing;
 mod gets;
 mod many;
