@@ -473,8 +473,8 @@ int clsm_transaction_get_many(clsm_transaction *transaction, const uint64_t *key
                               clsm_value *values);
 
 /* The first rows of the range, as clsm_page, with its own writes among them. It has read the range
- * up to the last row, or up to the key of the next one. OK. NO_SEAT, MEMORY: end is as before.
- * BAD_POINTER. */
+ * up to the key of the next row, or all of it if there is none. OK. NO_SEAT, MEMORY, BAD_POINTER:
+ * end is as before. */
 int clsm_transaction_page(clsm_transaction *transaction, uint64_t first, uint64_t last,
                           clsm_row *rows, size_t room, clsm_page_end *end);
 

@@ -503,8 +503,8 @@ public:
         return detail::read_many(
             keys, [this](auto... arguments) { return clsm_transaction_get_many(raw(), arguments...); });
     }
-    // The first rows from first to last, both included: the range is read up to the last of them,
-    // or up to `next`.
+    // The first rows from first to last, both included: the range is read up to `next`, or all of
+    // it.
     clsm::page page(std::uint64_t first, std::uint64_t last, std::size_t most) {
         const auto call = [this](auto... arguments) { return clsm_transaction_page(raw(), arguments...); };
         return detail::read_page(call, first, last, most, detail::thrower());

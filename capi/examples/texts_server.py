@@ -19,6 +19,7 @@ from texts import Texts
 
 Command = Tuple[Callable[..., bytes], List[bytes]]
 MOST = 1 << 20  # words of a command
+TRIES = 10_000  # of a transaction
 NUMBER = re.compile(rb"0|-?[1-9][0-9]{0,17}")  # has 64 bits
 
 # ---- Answers, as the protocol writes them
@@ -102,7 +103,7 @@ class Client:
             if name in CONTROLS:
                 return function(self, *words)
             if self.queue is None:
-                return self.store.transact(lambda rows: function(Texts(rows), *words))
+                return self.store.transact(lambda rows: function(Texts(rows), *words), TRIES)
         except (cupolanettle.Error, ValueError) as error:  # or there is no room
             self.is_wrong = True
             return refusal(error)
@@ -152,7 +153,7 @@ class Client:
                 return b"*-1\r\n"
             return array_answer([function(texts, *words) for function, words in queue])
 
-        return self.store.transact(all_of)
+        return self.store.transact(all_of, TRIES)
 
 
 CONTROLS: Dict[bytes, Tuple[Callable[..., bytes], int, int]] = {

@@ -92,6 +92,65 @@ static void batch(struct worker *self) {
         record_batch(self->file, clsm_number(self->caller), clsm_time(self->caller), rows, count);
 }
 
+/* What keys had at this time is so many gets. */
+static void record_gets(struct worker *self, uint64_t time, const clsm_row *found, size_t count) {
+    for (size_t i = 0; i < count; i++)
+        record_read(self->file, clsm_number(self->caller), time, "get", found[i].key,
+                    &found[i].value);
+}
+
+static void get_many(struct worker *self, clsm_row *found, size_t count) {
+    uint64_t keys[ROWS] = {0};
+    clsm_value values[ROWS];
+    for (size_t i = 0; i < count; i++) keys[i] = draw_key(self);
+    OK(clsm_get_many(self->caller, keys, count, values));
+    for (size_t i = 0; i < count; i++) found[i] = (clsm_row){keys[i], values[i]};
+    record_gets(self, clsm_time(self->caller), found, count);
+}
+
+/* What it expects has its own time, too. */
+static void batch_if(struct worker *self) {
+    clsm_row found[ROWS], rows[2];
+    const size_t count = draw(self, 4);
+    get_many(self, found, count);
+    for (size_t i = 0; i < 2; i++) {
+        rows[i] = (clsm_row){.key = draw_key(self)};
+        if (draw(self, 4)) rows[i].value.length = draw_words(self, rows[i].value.words);
+    }
+    int code = clsm_batch_if(self->caller, found, count, NULL, 0, rows, 2, NULL);
+    if (code == CLSM_KEPT || !was_written(code)) return;
+    record_gets(self, clsm_time(self->caller), found, count);
+    record_batch(self->file, clsm_number(self->caller), clsm_time(self->caller), rows, 2);
+}
+
+/* Reads a page and some keys, and writes up to two. All that has the time of its end. */
+static void transact(struct worker *self) {
+    clsm_transaction *transaction;
+    clsm_row page[ROWS], found[4], rows[2];
+    clsm_page_end end;
+    const uint64_t first = draw_key(self), last = first + draw(self, 20);
+    const size_t room = draw(self, 5), reads = draw(self, 4), writes = draw(self, 3);
+    OK(clsm_transaction_open(self->caller, &transaction));
+    OK(clsm_transaction_page(transaction, first, last, page, room, &end));
+    for (size_t i = 0; i < reads; i++) {
+        found[i].key = draw_key(self);
+        clsm_transaction_get(transaction, found[i].key, &found[i].value);
+    }
+    for (size_t i = 0; i < writes; i++) {
+        rows[i] = (clsm_row){.key = first + i};
+        rows[i].value.length = draw_words(self, rows[i].value.words);
+        OK(clsm_transaction_put(transaction, rows[i].key, rows[i].value.words,
+                                rows[i].value.length));
+    }
+    int code = clsm_transaction_commit(transaction);
+    clsm_transaction_close(transaction);
+    if (code == CLSM_CONFLICT || !was_written(code)) return;
+    const uint64_t time = clsm_time(self->caller);
+    record_page(self->file, clsm_number(self->caller), time, first, last, room, page, &end);
+    record_gets(self, time, found, reads);
+    if (writes > 0) record_batch(self->file, clsm_number(self->caller), time, rows, writes);
+}
+
 static void change(struct worker *self) {
     const uint64_t key = draw_key(self), kind = draw(self, 4);
     clsm_value value = {.length = 0}, old;
@@ -168,7 +227,11 @@ static void *work(void *of) {
     struct worker *self = of;
     for (uint64_t i = 0; i < self->calls; i++) {
         const uint64_t kind = draw(self, 1000);
-        if (kind < 400) put(self);
+        clsm_row found[ROWS];
+        if (kind < 360) put(self);
+        else if (kind < 380) batch_if(self);
+        else if (kind < 390) transact(self);
+        else if (kind < 400) get_many(self, found, 1 + draw(self, ROWS));
         else if (kind < 480) change(self);
         else if (kind < 500) batch(self);
         else if (kind < 600) remove_key(self);

@@ -94,8 +94,8 @@ impl<'a> Transaction<'a> {
     }
 
     /// The first rows of the range by rising key, at most so many, with its own writes among them.
-    /// It has read the range up to the last of them, or up to the key that is told as the next one:
-    /// what others change there is a conflict. It takes memory for so many rows.
+    /// It has read the range up to the key that is told as the next one, or all of it: what others
+    /// change there is a conflict. It takes memory for so many rows.
     ///
     /// # Errors
     ///

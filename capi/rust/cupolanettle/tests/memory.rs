@@ -4,7 +4,7 @@
 //! This program has a malloc of its own, in front of that of the system.
 use cupolanettle::{
     Batch, BatchError, Caller, CopyError, Error, Memory, OpenError, Options, RetainError, Store,
-    Value,
+    TransactError, Value,
 };
 use std::cell::Cell;
 use std::ffi::c_void;
@@ -101,6 +101,66 @@ fn the_first_row() -> Result<(), Error> {
     }
     drop(store);
     Ok(())
+}
+
+#[test]
+fn the_last_row() -> Result<(), Error> {
+    let (_store, caller) = filled()?;
+    let (count, row) = refuse_each(|| caller.last_key_value());
+    assert!(count > 0);
+    assert_eq!(row, Some((ROWS - 1, (ROWS - 1).into())));
+    let (count, page) = refuse_each(|| caller.snapshot().unwrap().page_down(.., 5));
+    assert!(count > 1);
+    assert_eq!((page.rows.len(), page.next), (5, Some(ROWS - 6)));
+    Ok(())
+}
+
+#[test]
+fn many_keys() -> Result<(), Error> {
+    let (_store, caller) = filled()?;
+    let keys: Vec<u64> = (0..ROWS).collect();
+    let (count, found) = refuse_each(|| caller.get_many(&keys));
+    assert!(count > 1);
+    assert!(found.iter().zip(keys).all(|(value, key)| *value == Some(key.into())));
+    let (found, is_refused) = with_allocations(0, || caller.get_array([ROWS, 7]));
+    assert_eq!((found, is_refused), ([None, Some(7.into())], false));
+    Ok(())
+}
+
+#[test]
+fn a_range_from_its_end_takes_memory_once() -> Result<(), Error> {
+    let (_store, caller) = filled()?;
+    let mut rows = caller.range(..)?.rev();
+    let (row, is_refused) = with_allocations(0, || rows.next());
+    assert_eq!((row, is_refused), (Some(Err(Memory)), true));
+    assert_eq!(rows.next(), Some(Ok((ROWS - 1, (ROWS - 1).into()))));
+    let (count, is_refused) = with_allocations(0, || rows.flatten().count() as u64);
+    assert_eq!((count, is_refused), (ROWS - 1, false));
+    Ok(())
+}
+
+/// What is refused in it ends it, and is not written.
+#[test]
+fn a_transaction() -> Result<(), Error> {
+    let (_store, caller) = filled()?;
+    let run = || {
+        caller.transact(|t| {
+            t.put(0, 1)?;
+            let found = t.get_many(&[1, 2, 3])?;
+            Ok::<_, TransactError>((found.len(), t.page(.., 5)?.rows.len()))
+        })
+    };
+    for count in 0..MANY {
+        let (came, is_refused) = with_allocations(count, run);
+        let Err(refused) = came else {
+            assert!(count > 3 && !is_refused);
+            assert_eq!((came, caller.get(0)), (Ok((3, 5)), Some(1.into())));
+            return Ok(());
+        };
+        assert_eq!((refused, is_refused), (TransactError::Memory, true));
+        assert_eq!(caller.get(0), Some(0.into()));
+    }
+    panic!("it takes more and more");
 }
 
 /// Whether these rows are those of the keys from this one on, and are read without memory.
