@@ -3,7 +3,7 @@
  *     cc index.c $(pkg-config --cflags --libs clsm) -pthread -o index && ./index
  *
  * A good and its entry in the index are changed in one transaction. So each snapshot has one entry
- * for each good, at the good's price, and what a query finds in the index it finds among the goods.
+ * for each good, at the good's price, and what a query finds in the index is among the goods.
  *
  *     goods   0, 1 bit | number, 63 bits                     -> price, name
  *     index   1, 1 bit | price, 31 bits | number, 32 bits    -> 0

@@ -2,8 +2,8 @@
 
     python3 index.py
 
-A good and its entry in the index are changed in one transaction. So each snapshot has one entry for
-each good, at the good's price, and what a query finds in the index it finds among the goods.
+A good and its entry in the index are changed in one transaction. So each snapshot has one entry
+for each good, at the good's price, and what a query finds in the index is among the goods.
 
     goods   0, 1 bit | number, 63 bits                     -> price, name
     index   1, 1 bit | price, 31 bits | number, 32 bits    -> 0
@@ -45,14 +45,14 @@ def raise_price(rows: Any, number: int, by: int) -> None:
 def query(
     store: cupolanettle.Store, start: int, stop: int, falls: bool
 ) -> List[Tuple[int, Any]]:
-    """The first places of the index between the two, by rising or falling price, and their goods."""
+    """The first places of the index between the two, by rising or falling price, with goods."""
     with store.snapshot() as now:
         places = [place for place, _ in itertools.islice(now.scan(start, stop, falls), PAGE)]
         return list(zip(places, now.get_many([place & NUMBER for place in places])))
 
 
 def print_pages(store: cupolanettle.Store, low: int, high: int, falls: bool) -> None:
-    """Prints the goods with prices from low on and below high: a page begins behind the last place."""
+    """Prints the goods with prices from low on and below high, each page behind the last place."""
     start, stop = place_of(low, 0), place_of(high, 0)
     while True:
         page = query(store, start, stop, falls)

@@ -2,8 +2,8 @@
 //!
 //!     cargo run --offline --example index
 //!
-//! A good and its entry in the index are changed in one transaction. So each snapshot has one entry
-//! for each good, at the good's price, and what a query finds in the index it finds among the goods.
+//! A good and its entry in the index are changed in one transaction. So each snapshot has one
+//! entry for each good, at its price, and what a query finds in the index is among the goods.
 //!
 //!     goods   0, 1 bit | number, 63 bits                     -> price, name
 //!     index   1, 1 bit | price, 31 bits | number, 32 bits    -> 0
@@ -56,7 +56,7 @@ fn query(caller: &Caller, keys: Range<u64>, falls: bool) -> Result<Vec<(u64, Val
     Ok(places.into_iter().zip(goods.into_iter().flatten()).collect())
 }
 
-/// Prints the goods with prices of the range: a page begins behind the last place of the one before.
+/// Prints the goods with prices of the range, each page behind the last place.
 fn print_pages(caller: &Caller, prices: Range<u64>, falls: bool) -> Result<(), Error> {
     let mut keys = place_of(prices.start, 0)..place_of(prices.end, 0);
     loop {

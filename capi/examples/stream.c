@@ -3,11 +3,11 @@
  *     cc stream.c $(pkg-config --cflags --libs clsm) -pthread -o stream && ./stream
  *
  * Events come in four logs, each written by a thread. Workers take the next events of a log, add
- * them to their windows, and write how far the log is counted: all of that in one transaction. If a
- * worker dies in between, nothing of its transaction is there, and another one goes on where it
- * began. If two count the same events, one comes to a conflict, and begins anew behind them.
+ * them to their windows, and write how far the log is counted: all of that in one transaction.
+ * If a worker dies in between, nothing of its transaction is there, and another one goes on where
+ * it began. If two count the same events, one comes to a conflict, and begins behind them.
  *
- *     log        0, 8 bits | number of the log, 8 bits | place in the log, 48 bits   -> time, name
+ *     log        0, 8 bits | number of the log, 8 bits | place in it, 48 bits   -> time, name
  *     progress   1, 8 bits | number of the log, 56 bits   -> next place, latest time, late events
  *     windows    2, 8 bits | window, 40 bits | name, 16 bits   -> count
  *     totals     3, 8 bits | name, 56 bits   -> count
@@ -56,8 +56,8 @@ static uint64_t first_open(uint64_t latest) {
     return latest < SLACK ? 0 : (latest - SLACK) / WIDTH;
 }
 
-/* Counts the next events of a log, in a transaction. The log's rows never change, so that no other
- * worker and no writer of the log is in its way there. */
+/* Counts the next events of a log, in a transaction. It reads them outside of that: a log's rows
+ * never change, so it comes to no conflict with the thread that writes them. */
 static void count(clsm_caller *caller, clsm_transaction *rows, uint64_t log) {
     clsm_value progress, events[TOGETHER];
     uint64_t next[TOGETHER];

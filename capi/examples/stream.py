@@ -2,15 +2,15 @@
 
     python3 stream.py
 
-Events come in four logs, each written by a thread. Workers take the next events of a log, add them
-to their windows, and write how far the log is counted: all of that in one transaction. If a worker
-dies in between, nothing of its transaction is there, and another one goes on where it began. If two
-count the same events, one of them comes to a conflict and begins anew, behind them.
+Events come in four logs, each written by a thread. Workers take the next events of a log, add
+them to their windows, and write how far the log is counted: all of that in one transaction. If a
+worker dies in between, nothing of its transaction is there, and another one goes on where it
+began. If two count the same events, one comes to a conflict, and begins behind them.
 
-    log        0, 8 bits | number of the log, 8 bits | place in the log, 48 bits    -> time, name
-    progress   1, 8 bits | number of the log, 56 bits       -> next place, latest time, late events
-    windows    2, 8 bits | window, 40 bits | name, 16 bits  -> count
-    totals     3, 8 bits | name, 56 bits                    -> count
+    log        0, 8 bits | number of the log, 8 bits | place in it, 48 bits   -> time, name
+    progress   1, 8 bits | number of the log, 56 bits   -> next place, latest time, late events
+    windows    2, 8 bits | window, 40 bits | name, 16 bits   -> count
+    totals     3, 8 bits | name, 56 bits   -> count
 """
 
 import itertools
@@ -47,7 +47,8 @@ def first_open(latest: int) -> int:
 
 
 def count(store: cupolanettle.Store, rows: Any, log: int) -> None:
-    """Counts the next events of a log, in a transaction. Rows of the log itself never change."""
+    """Counts the next events of a log, in a transaction. It reads them outside of that: a log's
+    rows never change, so it comes to no conflict with the thread that writes them."""
     place, latest, late = rows.get(PROGRESS | log, (0, 0, 0))
     begin = LOG | log << 48 | place
     found = store.get_many(range(begin, begin + TOGETHER))
@@ -67,8 +68,8 @@ def progress(store: cupolanettle.Store) -> List[Any]:
 
 
 def expire(store: cupolanettle.Store) -> None:
-    """Removes the windows that are closed for all logs: no worker counts there any more, since it
-    would have to read an older progress, and come to a conflict."""
+    """Removes the windows that are closed for all logs. No worker counts there any more: it would
+    have read an older progress, and come to a conflict."""
     closed = min(first_open(latest) for _, latest, _ in progress(store))
     store.retain(lambda key, count: False, WINDOWS, WINDOWS | closed << 16)
 

@@ -3,11 +3,11 @@
 //!     cargo run --offline --example stream
 //!
 //! Events come in four logs, each written by a thread. Workers take the next events of a log, add
-//! them to their windows, and write how far the log is counted: all of that in one transaction. If a
-//! worker dies in between, nothing of its transaction is there, and another one goes on where it
-//! began. If two count the same events, one comes to a conflict, and begins anew behind them.
+//! them to their windows, and write how far the log is counted: all of that in one transaction.
+//! If a worker dies in between, nothing of its transaction is there, and another one goes on where
+//! it began. If two count the same events, one comes to a conflict, and begins behind them.
 //!
-//!     log        0, 8 bits | number of the log, 8 bits | place in the log, 48 bits   -> time, name
+//!     log        0, 8 bits | number of the log, 8 bits | place in it, 48 bits   -> time, name
 //!     progress   1, 8 bits | number of the log, 56 bits   -> next place, latest time, late events
 //!     windows    2, 8 bits | window, 40 bits | name, 16 bits   -> count
 //!     totals     3, 8 bits | name, 56 bits   -> count
@@ -48,8 +48,8 @@ fn progress_of(row: Option<Value>) -> [u64; 3] {
     row.map_or([0; 3], |row| [row[0], row[1], row[2]])
 }
 
-/// Counts the next events of a log, in a transaction. The log's rows never change, so that no other
-/// worker and no writer of the log is in its way there.
+/// Counts the next events of a log, in a transaction. It reads them outside of that: a log's rows
+/// never change, so it comes to no conflict with the thread that writes them.
 fn count(caller: &Caller, rows: &mut Transaction<'_>, log: u64) -> Result<(), Error> {
     let [mut place, mut latest, mut late] = progress_of(rows.get(PROGRESS | log)?);
     let next: Vec<u64> = (place..place + TOGETHER).map(|place| LOG | log << 48 | place).collect();
@@ -71,8 +71,8 @@ fn progress(caller: &Caller) -> Vec<[u64; 3]> {
     (0..LOGS).map(|log| progress_of(caller.get(PROGRESS | log))).collect()
 }
 
-/// Removes the windows that are closed for all logs. No worker counts there any more: it would have
-/// read an older progress, and come to a conflict.
+/// Removes the windows that are closed for all logs. No worker counts there any more: it would
+/// have read an older progress, and come to a conflict.
 fn expire(caller: &Caller) -> Result<(), Error> {
     let closed = progress(caller).iter().map(|[_, latest, _]| first_open(*latest)).min();
     caller.remove_range(WINDOWS..WINDOWS | closed.unwrap_or(0) << 16)?;

@@ -7,7 +7,7 @@
  * those rows of it that change, in one transaction.
  *
  *     number of a row   hash of the key, 48 bits | place of the row, 16 bits
- *     chain, in bytes   its size, 8 | sizes of key and value, 16 | key | value | the next text | ..
+ *     chain, in bytes   its size, 8 | sizes of key and value, 16 | key | value | next text | ..
  */
 #include <clsm.h>
 

@@ -2,12 +2,12 @@
 
     python3 texts.py
 
-Texts whose keys have one hash are a chain: they stand one behind another, cut into rows of 64 bytes,
-at the numbers that begin with the hash. Whoever sets a text reads its chain and writes those rows of
-it that change, in one transaction.
+Texts whose keys have one hash are a chain: they stand one behind another, cut into rows of 64
+bytes, at the numbers that begin with the hash. Whoever sets a text reads its chain and writes
+those rows of it that change, in one transaction.
 
     number of a row   hash of the key, 48 bits | place of the row, 16 bits
-    chain, in bytes   its size, 8 | sizes of key and value, 16 | key | value | the next text | ..
+    chain, in bytes   its size, 8 | sizes of key and value, 16 | key | value | next text | ..
 """
 
 import hashlib

@@ -7,6 +7,7 @@ It knows GET, MGET, SET, DEL, INCR and PING. Each is a transaction, and so are a
 MULTI and EXEC: they are done at one moment, if the client still finds there what it watches.
 """
 
+import re
 import socket
 import socketserver
 import sys
@@ -18,6 +19,8 @@ from texts import Texts
 
 Command = Tuple[Callable[..., bytes], List[bytes]]
 MOST = 1 << 20  # words of a command
+TRIES = 10_000  # of a transaction
+NUMBER = re.compile(rb"0|-?[1-9][0-9]{0,17}")  # has 64 bits
 
 # ---- Answers, as the protocol writes them
 
@@ -50,11 +53,15 @@ def put(texts: Texts, key: bytes, text: bytes) -> bytes:
     return b"+OK\r\n"
 
 
+def delete(texts: Texts, *keys: bytes) -> bytes:
+    return number_answer(sum(texts.set(key, None) for key in keys))
+
+
 def incr(texts: Texts, key: bytes) -> bytes:
-    try:
-        number = int(texts.get(key) or 0) + 1
-    except ValueError:
+    text = texts.get(key)
+    if text is not None and not NUMBER.fullmatch(text):
         return refusal("value is not an integer or out of range")
+    number = int(text or 0) + 1
     texts.set(key, b"%d" % number)
     return number_answer(number)
 
@@ -64,7 +71,7 @@ COMMANDS: Dict[bytes, Tuple[Callable[..., bytes], int, int]] = {
     b"GET": (lambda texts, key: text_answer(texts.get(key)), 1, 1),
     b"MGET": (mget, 1, MOST),
     b"SET": (put, 2, 2),
-    b"DEL": (lambda texts, *keys: number_answer(sum(texts.set(key, None) for key in keys)), 1, MOST),
+    b"DEL": (delete, 1, MOST),
     b"INCR": (incr, 1, 1),
     b"PING": (lambda _, *said: text_answer(*said) if said else b"+PONG\r\n", 0, 1),
 }
@@ -73,7 +80,7 @@ COMMANDS: Dict[bytes, Tuple[Callable[..., bytes], int, int]] = {
 
 
 class Client:
-    """What is kept of a client: what it watches, as it found it, and the commands since its MULTI."""
+    """What a client watches, as it found it, and the commands since its MULTI."""
 
     def __init__(self, store: cupolanettle.Store) -> None:
         self.store = store
@@ -96,10 +103,14 @@ class Client:
             if name in CONTROLS:
                 return function(self, *words)
             if self.queue is None:
-                return self.store.transact(lambda rows: function(Texts(rows), *words))
+                return self.store.transact(lambda rows: function(Texts(rows), *words), TRIES)
         except (cupolanettle.Error, ValueError) as error:  # or there is no room
             self.is_wrong = True
             return refusal(error)
+        return self.keep(function, words)
+
+    def keep(self, function: Callable[..., bytes], words: List[bytes]) -> bytes:
+        """Keeps the command for EXEC."""
         self.queue.append((function, words))
         return b"+QUEUED\r\n"
 
@@ -107,7 +118,8 @@ class Client:
         if self.queue is not None:
             return refusal("WATCH inside MULTI is not allowed")
         with self.store.snapshot() as rows:
-            self.watched.update(zip(keys, Texts(rows).get_many(keys)))
+            found = dict(zip(keys, Texts(rows).get_many(keys)))
+        self.watched = {**found, **self.watched}  # as it found them first
         return b"+OK\r\n"
 
     def multi(self) -> bytes:
@@ -117,14 +129,21 @@ class Client:
         return b"+OK\r\n"
 
     def discard(self) -> bytes:
+        if self.queue is None:
+            return refusal("DISCARD without MULTI")
         self.forget()
         return b"+OK\r\n"
 
+    def unwatch(self) -> bytes:
+        if self.queue is None:
+            self.watched = {}
+        return b"+OK\r\n" if self.queue is None else self.keep(lambda _: b"+OK\r\n", [])
+
     def exec(self) -> bytes:
+        if self.queue is None:
+            return refusal("EXEC without MULTI")
         watched, queue, is_wrong = self.watched, self.queue, self.is_wrong
         self.forget()
-        if queue is None:
-            return refusal("EXEC without MULTI")
         if is_wrong:
             return refusal("Transaction discarded because of previous errors.", "EXECABORT")
 
@@ -134,12 +153,12 @@ class Client:
                 return b"*-1\r\n"
             return array_answer([function(texts, *words) for function, words in queue])
 
-        return self.store.transact(all_of)
+        return self.store.transact(all_of, TRIES)
 
 
 CONTROLS: Dict[bytes, Tuple[Callable[..., bytes], int, int]] = {
     b"WATCH": (Client.watch, 1, MOST),
-    b"UNWATCH": (Client.discard, 0, 0),
+    b"UNWATCH": (Client.unwatch, 0, 0),
     b"MULTI": (Client.multi, 0, 0),
     b"DISCARD": (Client.discard, 0, 0),
     b"EXEC": (Client.exec, 0, 0),

@@ -141,7 +141,7 @@ RUNS = "$(T)/threads $(ROUNDS)" "$(T)/threads $(ROUNDS) one" "$(T)/codecs tests/
 SMALL = "$(T)/threads 200" "$(T)/codecs tests/codecs.txt" "$(T)/loops 500" $(patsubst %,$(T)/%,$(filter-out stack loops,$(PLAIN)))
 MEMCHECK = valgrind -q --error-exitcode=9 --leak-check=full --errors-for-leak-kinds=definite --show-leak-kinds=definite --fair-sched=yes
 
-.PHONY: check check-mock check-valgrind check-audit check-planted check-packed
+.PHONY: check check-mock check-valgrind check-audit check-planted check-packed check-redis
 check: tools generated names warnings $(BUILT)
 	@$(if $(AUDIT),,echo "capi: AUDIT is empty: no calls are audited")
 	CC="$(CC)" tests/run $(GUARD) $(RUNS)
@@ -155,6 +155,10 @@ check-valgrind: valgrind-tools $(BUILT)
 
 check-audit: audit-tools $(T)/audited
 	tests/run $(GUARD) "tests/audit $(T)/audited $(AUDIT_CALLS) $(AUDIT)"
+
+check-redis: $(OUT)/$(SHARED) $(if $(HAS_PYTHON_HEADERS),extension)
+	$(call tools_of,redis-server python3)
+	tests/run $(GUARD) "tests/redis $(OUT)/libclsm.so"
 
 check-planted: tools
 	CC="$(CC)" tests/planted $(OUT)/planted
