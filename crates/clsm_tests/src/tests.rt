@@ -4,6 +4,7 @@ mod act;
 mod actor;
 mod batches;
 mod case;
+mod downwards;
 mod drawn;
 mod gate;
 mod held;
