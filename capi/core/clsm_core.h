@@ -118,7 +118,7 @@ enum {
 
 /* The core defines this name, which changes with this header: with a core of another
  * interface, a program does not link. */
-#define CLSM_CORE_INTERFACE clsm_core_interface_16905e9960f1
+#define CLSM_CORE_INTERFACE clsm_core_interface_f170ea261da0
 extern const char CLSM_CORE_INTERFACE;
 
 /* The handle of a store: the callers and the merger that nobody has taken yet. */
@@ -355,6 +355,13 @@ uint32_t clsm_core_count(clsm_core_caller *caller, const clsm_core_range *ask,
  * page begins, if there are more. */
 uint32_t clsm_core_page(clsm_core_caller *caller, const clsm_core_range *ask, clsm_core_row *rows,
                         size_t count, clsm_core_paged *answer);
+
+/* Fills rows by falling key: the last ones of the range that have a value, as many as there is room
+ * for. The rows behind these stay as they are. It reads at the time that clsm_core_count would, and
+ * takes no memory. Answers CLSM_CORE_OK, that time, the number of rows filled, and at which key the
+ * next page downwards begins, if there are more. */
+uint32_t clsm_core_page_down(clsm_core_caller *caller, const clsm_core_range *ask,
+                             clsm_core_row *rows, size_t count, clsm_core_paged *answer);
 
 /* ---- the merger's */
 

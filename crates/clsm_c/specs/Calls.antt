@@ -13,7 +13,7 @@ use Rattle.clsm_model.specs.Config.{IsSound}
 use Rattle.clsm_model.specs.Right.{Member}
 use Rattle.clsm_store.specs.Changes.{Replaces}
 use Rattle.clsm_store.specs.Opening.{IsRefusal}
-use Rattle.clsm_store.specs.Promises.{FillsPage, TriesToChangeBy, TriesToWrite, TriesToWriteBatch}
+use Rattle.clsm_store.specs.Promises.{FillsPage, FillsPageDown, TriesToChangeBy, TriesToWrite, TriesToWriteBatch}
 use Rattle.clsm_store.specs.declared.freezing.TryFroze.{TryFroze}
 use Rattle.clsm_store.specs.declared.freezing.TryFroze.TheVariants.{Busy as FreezeBusy, Done as FreezeDone, Waited as FreezeWaited}
 use Rattle.clsm_store.specs.declared.phase.NotFrozen.{NotFrozen}
@@ -195,6 +195,13 @@ Pages (Some old) ask before (Some new) after answer code =
     Told (FillsPage row_pair TellsRow old.seat new.seat ask.first ask.last before after) (TellsPage answer code)
 Pages None ask before None after answer code = (code ≡ NO_HANDLE) × (after ≡ before)
 Pages _ ask before _ after answer code = ⊥
+
+-- page_down_into the rows, as that
+abbrev pub PagesDown : Option SharedCaller → CoreRange → List CoreRow → Option SharedCaller → List CoreRow → CorePaged → ℕ → Type 0
+PagesDown (Some old) ask before (Some new) after answer code =
+    Told (FillsPageDown row_pair TellsRow old.seat new.seat ask.first ask.last before after) (TellsPage answer code)
+PagesDown None ask before None after answer code = (code ≡ NO_HANDLE) × (after ≡ before)
+PagesDown _ ask before _ after answer code = ⊥
 
 -- ---- stores
 

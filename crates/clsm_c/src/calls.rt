@@ -6,9 +6,9 @@ ghost use Rattle.clsm_store.specs.Freezing.{TryFreezes};
 ghost use Rattle.clsm_store.specs.Phase.{CountsIfFrozen};
 ghost use Rattle.clsm_store.specs.Promises.{ClosesSnapshot, CountsRange, Gets, GetsAtIfOpen, OpensSnapshot, TriesToChangeBy, TriesToWrite};
 ghost use Rattle.clsm_store.specs.Sweeping.{TrySweeps};
-ghost use Rattle.clsm_c.specs.Calls.{AreMembers, BatchesRows, ByCaller, ByMerger, HasLong, IsMember, IsNext, LooksAtPhase, Opens, Pages};
+ghost use Rattle.clsm_c.specs.Calls.{AreMembers, BatchesRows, ByCaller, ByMerger, HasLong, IsMember, IsNext, LooksAtPhase, Opens, Pages, PagesDown};
 ghost use Rattle.clsm_c.specs.Calls.{PutsRow, ReplacesValue, TakesCaller, TakesMerger, TellsBatch, TellsChange, TellsClosed, TellsCounted};
-ghost use Rattle.clsm_c.specs.Calls.{TellsEntries, TellsFreeze, TellsGot, TellsGotAt, TellsOpened, TellsRefused, TellsSweep, TellsTry, Told};
+ghost use Rattle.clsm_c.specs.Calls.{TellsEntries, TellsFreeze, TellsGot, TellsGotAt, TellsOpened, TellsPage, TellsRefused, TellsSweep, TellsTry, Told};
 ghost use Rattle.clsm_c.specs.Calls.{kept_code, refusal_code, value_after};
 
 use crate::codes::{
@@ -25,8 +25,8 @@ use crate::types::{
     from_core, to_core, value_or_none,
 };
 use clsm_store::{
-    BatchError, Change, Config, Got, Merger, OpenError, Phase, Rmw, Stopped, Time, TryBatchError,
-    TryFroze, TryPutError, TrySwept, Value, Worn,
+    BatchError, Change, Config, Filled, Got, Merger, OpenError, Phase, Rmw, Stopped, Time,
+    TryBatchError, TryFroze, TryPutError, TrySwept, Value, Worn,
 };
 use std::alloc::Global;
 
@@ -422,6 +422,16 @@ fn tell_next(more: Option<u64>, answer: &mut CorePaged)
     answer.next = more.unwrap_or(0);
 }
 
+/// Tells of a page: its time, how many rows it filled, and where the next one begins.
+fn tell_page(filled: &Filled, answer: &mut CorePaged) -> Code
+    ensures { TellsPage answer.new result filled.now }
+{
+    answer.time = filled.time;
+    answer.rows = filled.rows as u64;
+    tell_next(filled.more, answer);
+    OK
+}
+
 pub(crate) fn page(
     slot: &mut CallerSlot,
     ask: &CoreRange,
@@ -436,10 +446,24 @@ pub(crate) fn page(
     let filled = caller
         .store
         .page_into(&mut caller.seat, ask.first, ask.last, rows);
-    answer.time = filled.time;
-    answer.rows = filled.rows as u64;
-    tell_next(filled.more, answer);
-    OK
+    tell_page(&filled, answer)
+}
+
+pub(crate) fn page_down(
+    slot: &mut CallerSlot,
+    ask: &CoreRange,
+    rows: &mut [CoreRow],
+    answer: &mut CorePaged,
+) -> Code
+    ensures { PagesDown slot.old.caller ask.now rows.old slot.new.caller rows.new answer.new result }
+{
+    let Some(caller) = &mut slot.caller else {
+        return NO_HANDLE;
+    };
+    let found = caller
+        .store
+        .page_down_into(caller.alloc, &mut caller.seat, ask.first, ask.last, rows);
+    tell_page(&found, answer)
 }
 
 // ---- the merger's

@@ -13,7 +13,7 @@ ghost use Rattle.clsm_store.specs.Freezing.{TryFreezes};
 ghost use Rattle.clsm_store.specs.Phase.{CountsIfFrozen};
 ghost use Rattle.clsm_store.specs.Promises.{ClosesSnapshot, CountsRange, Gets, GetsAtIfOpen, OpensSnapshot, TriesToChangeBy, TriesToWrite};
 ghost use Rattle.clsm_store.specs.Sweeping.{TrySweeps};
-ghost use Rattle.clsm_c.specs.Calls.{BatchesRows, ByCaller, ByMerger, LooksAtPhase, Opens, Pages, PutsRow, ReplacesValue, TakesCaller, TakesMerger};
+ghost use Rattle.clsm_c.specs.Calls.{BatchesRows, ByCaller, ByMerger, LooksAtPhase, Opens, Pages, PagesDown, PutsRow, ReplacesValue, TakesCaller, TakesMerger};
 ghost use Rattle.clsm_c.specs.Calls.{TellsChange, TellsClosed, TellsCounted, TellsEntries, TellsFreeze, TellsGot, TellsGotAt, TellsOpened};
 ghost use Rattle.clsm_c.specs.Calls.{TellsSweep, TellsTry, Told};
 ghost use Rattle.clsm_c.specs.Lent.{both, bytes_of, left, lies};
@@ -315,6 +315,29 @@ pub unsafe extern "C" fn clsm_core_page(
     ensures* { sem 𝓛 (left caller_row caller (λ new. Pages old.caller ask.now rows.old new.caller rows.new answer.new result)) }
 {
     calls::page(
+        unsafe { &mut *caller.cast::<CallerSlot>() },
+        ask,
+        rows,
+        answer,
+    )
+}
+
+/// Fills rows by falling key: the last ones of the range that have a value, as many as there is
+/// room for. The rows behind these stay as they are. It reads at the time that `clsm_core_count`
+/// would, and takes no memory. Answers `OK`, that time, the number of rows filled, and at which key
+/// the next page downwards begins, if there are more.
+#[unsafe(no_mangle)]
+pub unsafe extern "C" fn clsm_core_page_down(
+    caller: *mut u8,
+    ask: &CoreRange,
+    rows: &mut [CoreRow],
+    answer: &mut CorePaged,
+) -> u32
+    ghost old: { CallerSlot }
+    requires* { sem 𝓛 (lies caller_row caller old) }
+    ensures* { sem 𝓛 (left caller_row caller (λ new. PagesDown old.caller ask.now rows.old new.caller rows.new answer.new result)) }
+{
+    calls::page_down(
         unsafe { &mut *caller.cast::<CallerSlot>() },
         ask,
         rows,
