@@ -20,3 +20,7 @@ pub mod ReadParts
 pub mod Staged
 pub mod Polls
 pub mod Beside
+pub mod SameRange
+pub mod Unmet
+pub mod AloneParts
+pub mod AloneCalls

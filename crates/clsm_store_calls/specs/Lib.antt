@@ -14,3 +14,5 @@ pub mod Merging
 pub mod Reclaiming
 pub mod Batching
 pub mod Agreeing
+pub mod Conditions
+pub mod Conditional

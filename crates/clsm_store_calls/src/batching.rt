@@ -79,7 +79,12 @@ fn stage_member<P: Pace>(
 }
 
 /// Stages all members, in their order, from this time on.
-fn stage_all<P: Pace>(words: &Words<P>, seat: &mut RawSeat, first: Time, members: &[(u64, Change)])
+pub(crate) fn stage_all<P: Pace>(
+    words: &Words<P>,
+    seat: &mut RawSeat,
+    first: Time,
+    members: &[(u64, Change)],
+)
     requires of { IsSeatOf words.now seat.old }
     requires may { MayStage seat.old.knows first (length members.now) }
     requires writes { AreWrites members.now }

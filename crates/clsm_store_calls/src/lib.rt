@@ -5,6 +5,8 @@
 mod agreeing;
 mod batching;
 mod changing;
+mod conditional;
+mod conditions;
 mod flooring;
 mod freezing;
 mod got;
@@ -23,6 +25,10 @@ mod writing;
 pub use agreeing::agree_at;
 pub use batching::{batch, try_batch};
 pub use changing::{Modification, change, pin_after, try_change};
+pub use conditional::{
+    ConditionalBatch, batch_if, pin_after_batch_if, pin_after_try_batch_if, try_batch_if,
+};
+pub use conditions::Condition;
 pub use freezing::{freeze, try_freeze};
 pub use got::{Collected, Counted, Filled, Got, Page, Rmw, Scan};
 pub use looking::{drawn_at, entries_at, room_at};
@@ -31,7 +37,9 @@ pub use merger_seat::MergerSeat;
 pub use merging::merge;
 pub use reading::read;
 pub use reclaiming::reclaim;
-pub use refusal::{BatchError, Full, Open, Pinned, TryBatchError, TryPutError, Worn};
+pub use refusal::{
+    BatchError, BatchIfError, Full, Open, Pinned, TryBatchError, TryBatchIfError, TryPutError, Worn,
+};
 pub use scanning::{scan_at, scan_now, scan_under};
 pub use snapshotting::{OpenSnapshot, open_at, read_under};
 pub use visiting::{Visit, visit_at, visit_under};

@@ -78,3 +78,35 @@ pub enum TryBatchError {
     #[error("{0}")]
     Refused(BatchError),
 }
+
+/// The refusals of a batch with conditions, tested in the order `TooLong`, `Keep`, `Unmet`, `Full`.
+/// Nothing is written. The first two come before the lock is taken.
+#[derive(Clone, Copy, PartialEq, Eq, Debug, Error)]
+pub enum BatchIfError {
+    /// As a batch's.
+    #[error("too long")]
+    TooLong,
+    /// As a batch's.
+    #[error("keep")]
+    Keep,
+    /// While the seat held the lock alone, the condition at this place did not hold, and all before
+    /// it did; the clock stood at this time, which is the seat's due from then on.
+    #[error("unmet {index} @{time}")]
+    Unmet { index: usize, time: Time },
+    /// All conditions held, but fewer times were left below the limit than the batch has members;
+    /// else as a batch's.
+    #[error("full @{time}")]
+    Full { time: Time },
+}
+
+/// The refusals of `try_batch_if`, tested in the order of `batch_if`'s, but `Busy` before `Unmet`.
+/// Nothing is written.
+#[derive(Clone, Copy, PartialEq, Eq, Debug, Error)]
+pub enum TryBatchIfError {
+    /// Somebody held the lock.
+    #[error("busy")]
+    Busy,
+    /// As a batch with conditions is refused that waits for the lock.
+    #[error("{0}")]
+    Refused(BatchIfError),
+}
