@@ -20,6 +20,7 @@ use Rattle.clsm_model.specs.Seats.{FitsDeed}
 use Rattle.clsm_runs.specs.declared.merging.RunFull.{RunFull}
 use Rattle.clsm_scan.specs.Filling.{AreFilled}
 use Rattle.clsm_words.specs.Seats.{MessageState}
+use Rattle.clsm_store_calls.specs.declared.conditions.Condition.{Condition}
 use Rattle.clsm_store_calls.specs.declared.got.Counted.{Counted}
 use Rattle.clsm_store_calls.specs.declared.got.Filled.{Filled}
 use Rattle.clsm_store_calls.specs.declared.got.Got.{Got}
@@ -27,15 +28,18 @@ use Rattle.clsm_store_calls.specs.declared.got.Page.{Page}
 use Rattle.clsm_store_calls.specs.declared.got.Rmw.{Rmw}
 use Rattle.clsm_store_calls.specs.declared.got.Scan.{Scan}
 use Rattle.clsm_store_calls.specs.declared.refusal.BatchError.{BatchError}
+use Rattle.clsm_store_calls.specs.declared.refusal.BatchIfError.{BatchIfError}
 use Rattle.clsm_store_calls.specs.declared.refusal.Full.{Full}
 use Rattle.clsm_store_calls.specs.declared.refusal.Open.{Open}
 use Rattle.clsm_store_calls.specs.declared.refusal.Pinned.{Pinned}
 use Rattle.clsm_store_calls.specs.declared.refusal.TryBatchError.{TryBatchError}
+use Rattle.clsm_store_calls.specs.declared.refusal.TryBatchIfError.{TryBatchIfError}
 use Rattle.clsm_store_calls.specs.declared.refusal.TryPutError.{TryPutError}
 use Rattle.clsm_store_calls.specs.declared.refusal.Worn.{Worn}
 use Rattle.clsm_store_calls.specs.Agreeing.{AgreesWith}
 use Rattle.clsm_store_calls.specs.Batching.{CountsBatch, CountsTryBatch, IsRefusedBatch, IsRefusedTryBatch}
 use Rattle.clsm_store_calls.specs.Changing.{CountsTryChange, changed_at}
+use Rattle.clsm_store_calls.specs.Conditional.{AnswersIf, AreWritable, CountsBatchIf, CountsTryBatchIf, IsRefusedBatchIf, IsRefusedTryBatchIf, MeetsAll}
 use Rattle.clsm_store_calls.specs.Looking.{IsKeptOut}
 use Rattle.clsm_store_calls.specs.Merging.{IsRunFull, TakesFloor}
 use Rattle.clsm_store_calls.specs.Reclaiming.{AreAllQuiet, IsLowestLoud}
@@ -96,6 +100,35 @@ pub record TriesToWriteBatch (old new : SeatState) (members : List Member) (resu
   pub counts : CountsTryBatch old.tally new.tally result
   -- refused: as batch, or with `Busy` if somebody held the lock
   pub refused : IfErr result (IsRefusedTryBatch old new members)
+
+-- batch_if
+pub record WritesBatchIf (old new : SeatState) (conditions : List Condition) (members : List Member) (result : Result ℕ BatchIfError) : Type 0 where
+  -- answered with a time: as batch, one record more, the batch at that time; or with no member
+  -- none, and the time is the due
+  pub written : IfOk result (AnswersIf old new members)
+  -- all conditions hold at that time, which is the clock as the seat looked at it in its hold
+  pub holds : IfOk result (MeetsAll old new conditions)
+  -- and then it has at most as many members as an epoch has cells, and each writes
+  pub fits : IfOk result (λ time. AreWritable old.store.layout.cells members)
+  -- it took the lock once, or not at all if the members cannot be written; and it lost no exchange
+  -- there, and gave up no time
+  pub counts : CountsBatchIf old.tally new.tally result
+  -- refused: for the first cause of `TooLong`, `Keep`, `Unmet`, `Full`
+  pub refused : IfErr result (IsRefusedBatchIf old new conditions members)
+
+-- try_batch_if
+pub record TriesToWriteBatchIf (old new : SeatState) (conditions : List Condition) (members : List Member)
+    (result : Result ℕ TryBatchIfError) : Type 0 where
+  -- as batch_if
+  pub written : IfOk result (AnswersIf old new members)
+  -- as batch_if
+  pub holds : IfOk result (MeetsAll old new conditions)
+  -- as batch_if
+  pub fits : IfOk result (λ time. AreWritable old.store.layout.cells members)
+  -- as batch_if, but it tried the lock once
+  pub counts : CountsTryBatchIf old.tally new.tally result
+  -- refused: as batch_if, or with `Busy` if somebody held the lock
+  pub refused : IfErr result (IsRefusedTryBatchIf old new conditions members)
 
 -- ---- read-modify-writes
 

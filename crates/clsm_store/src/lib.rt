@@ -5,6 +5,7 @@ mod binding;
 mod caller;
 mod calls;
 mod changes;
+mod conditional;
 mod freezing;
 mod many;
 mod meet;
@@ -31,8 +32,8 @@ pub use clsm_model::{
 pub use clsm_runs::RunFull;
 pub use clsm_scan::{Row, Sink};
 pub use clsm_store_calls::{
-    BatchError, Counted, Filled, Full, Got, Open, Page, Pinned, Rmw, Scan, TryBatchError,
-    TryPutError, Worn,
+    BatchError, BatchIfError, Condition, Counted, Filled, Full, Got, Open, Page, Pinned, Rmw, Scan,
+    TryBatchError, TryBatchIfError, TryPutError, Worn,
 };
 pub use clsm_words::{Free, Kind, Pace};
 pub use freezing::TryFroze;
