@@ -118,7 +118,7 @@ enum {
 
 /* The core defines this name, which changes with this header: with a core of another
  * interface, a program does not link. */
-#define CLSM_CORE_INTERFACE clsm_core_interface_16905e9960f1
+#define CLSM_CORE_INTERFACE clsm_core_interface_34e75ccc04bd
 extern const char CLSM_CORE_INTERFACE;
 
 /* The handle of a store: the callers and the merger that nobody has taken yet. */
@@ -184,6 +184,14 @@ typedef struct clsm_core_range {
     uint64_t last;
 } clsm_core_range;
 
+/* The keys from the first to the last, both included, and how many of them are expected to have a
+ * value. */
+typedef struct clsm_core_range_count {
+    uint64_t first;
+    uint64_t last;
+    uint64_t keys;
+} clsm_core_range_count;
+
 /* How many timestamps of an epoch are enough to freeze it. */
 typedef struct clsm_core_used {
     uint64_t used;
@@ -210,6 +218,13 @@ typedef struct clsm_core_code {
 typedef struct clsm_core_time {
     uint64_t time;
 } clsm_core_time;
+
+/* The time of a batch with conditions; and, where one does not hold, its place: counted from 0, the
+ * expected rows first and behind them the counts. */
+typedef struct clsm_core_unmet {
+    uint64_t time;
+    uint64_t index;
+} clsm_core_unmet;
 
 /* The time of a read, and what it found. */
 typedef struct clsm_core_got {
@@ -306,6 +321,21 @@ uint32_t clsm_core_try_remove(clsm_core_caller *caller, const clsm_core_key *ask
  * then. */
 uint32_t clsm_core_try_batch(clsm_core_caller *caller, const clsm_core_row *rows, size_t count,
                              clsm_core_time *answer);
+
+/* Writes the rows as one batch, as clsm_core_try_batch, if each expected row has its value, or, if
+ * it has none, its key has none, and each count is the number of keys of its range that have a
+ * value: all of that at the batch's own time. Answers CLSM_CORE_OK and the time of the first row;
+ * with no row it writes nothing, and answers a time at which all that holds. It takes memory for
+ * what it is passed while it runs, and tries to take the lock once. Refused, in this order, with
+ * CLSM_CORE_MEMORY and CLSM_CORE_BAD_VALUE as there, for the expected rows first,
+ * CLSM_CORE_BAD_BATCH if there are more rows than an epoch has cells, CLSM_CORE_BUSY if the lock
+ * was not free, CLSM_CORE_KEPT, the clock's time and the place of the first that does not hold, and
+ * CLSM_CORE_FULL and the clock's time if the epoch has fewer timestamps left than there are rows:
+ * nothing was written then. */
+uint32_t clsm_core_try_batch_if(clsm_core_caller *caller, const clsm_core_row *expected,
+                                size_t expected_count, const clsm_core_range_count *counts,
+                                size_t counts_count, const clsm_core_row *rows, size_t count,
+                                clsm_core_unmet *answer);
 
 /* ---- a caller's read-modify-writes */
 
@@ -414,6 +444,11 @@ static_assert(sizeof(clsm_core_range) == 16
                   && offsetof(clsm_core_range, first) == 0
                   && offsetof(clsm_core_range, last) == 8,
               "clsm_core_range as the library has it");
+static_assert(sizeof(clsm_core_range_count) == 24
+                  && offsetof(clsm_core_range_count, first) == 0
+                  && offsetof(clsm_core_range_count, last) == 8
+                  && offsetof(clsm_core_range_count, keys) == 16,
+              "clsm_core_range_count as the library has it");
 static_assert(sizeof(clsm_core_used) == 8
                   && offsetof(clsm_core_used, used) == 0,
               "clsm_core_used as the library has it");
@@ -431,6 +466,10 @@ static_assert(sizeof(clsm_core_code) == 4
 static_assert(sizeof(clsm_core_time) == 8
                   && offsetof(clsm_core_time, time) == 0,
               "clsm_core_time as the library has it");
+static_assert(sizeof(clsm_core_unmet) == 16
+                  && offsetof(clsm_core_unmet, time) == 0
+                  && offsetof(clsm_core_unmet, index) == 8,
+              "clsm_core_unmet as the library has it");
 static_assert(sizeof(clsm_core_got) == 80
                   && offsetof(clsm_core_got, time) == 0
                   && offsetof(clsm_core_got, value) == 8,

@@ -10,6 +10,7 @@ static const clsm_core_sizes SIZES = {.cells = 8, .seats = 2, .shards = 1, .run 
 static const clsm_core_key KEY = {7};
 static const clsm_core_row ROW = {7, {2, {70, 71}}};
 static const clsm_core_range ALL = {0, UINT64_MAX};
+static const clsm_core_range_count SOME = {0, UINT64_MAX, 1};
 static const clsm_core_used ONE = {1};
 
 #define CORE(code, call) CHECK((call) == CLSM_CORE_##code)
@@ -41,9 +42,11 @@ static void call_empty_caller(clsm_core_caller *caller) {
     clsm_core_changed changed;
     clsm_core_counted counted;
     clsm_core_paged paged;
+    clsm_core_unmet unmet;
     CORE(NO_HANDLE, clsm_core_try_put(caller, &ROW, &time));
     CORE(NO_HANDLE, clsm_core_try_remove(caller, &KEY, &time));
     CORE(NO_HANDLE, clsm_core_try_batch(caller, rows, 2, &time));
+    CORE(NO_HANDLE, clsm_core_try_batch_if(caller, rows, 1, &SOME, 1, rows, 2, &unmet));
     CORE(NO_HANDLE, clsm_core_try_add(caller, &(clsm_core_adding){7, 1}, &changed));
     CORE(NO_HANDLE, clsm_core_try_replace(caller, &(clsm_core_replacing){.key = 7}, &changed));
     CORE(NO_HANDLE, clsm_core_get(caller, &KEY, &got));
@@ -178,6 +181,42 @@ static void refuse_batches(clsm_core_caller *caller) {
     CORE(NOT_FOUND, clsm_core_get(caller, &KEY, &got));
 }
 
+/* ---- Batches with conditions */
+
+static void write_under_conditions(void) {
+    clsm_core_store store;
+    clsm_core_caller caller;
+    clsm_core_unmet unmet = {9, 9};
+    clsm_core_got got;
+    const clsm_core_row none[] = {{.key = 7}, {.key = 8}};
+    const clsm_core_row long_row = {7, {9, {0}}};
+    const clsm_core_row rows[] = {ROW, {8, {1, {80}}}};
+    const clsm_core_range_count counts[] = {{7, 8, 2}, {0, 6, 1}};
+    clsm_core_row many[9];
+    for (uint64_t i = 0; i < 9; i++) many[i] = (clsm_core_row){.key = i};
+    open_core(&SIZES, CLSM_CORE_OK, &store);
+    take_caller(&store, CLSM_CORE_OK, &caller);
+    CORE(BAD_VALUE, clsm_core_try_batch_if(&caller, &long_row, 1, counts, 0, rows, 2, &unmet));
+    CORE(BAD_VALUE, clsm_core_try_batch_if(&caller, none, 2, counts, 0, &long_row, 1, &unmet));
+    CORE(BAD_BATCH, clsm_core_try_batch_if(&caller, none, 2, counts, 0, many, 9, &unmet));
+    CORE(OK, clsm_core_try_batch_if(&caller, none, 2, counts, 0, rows, 0, &unmet));
+    CHECK(unmet.time == 0);
+    CORE(OK, clsm_core_try_batch_if(&caller, none, 2, counts, 0, rows, 2, &unmet));
+    CHECK(unmet.time == 0);
+    CORE(KEPT, clsm_core_try_batch_if(&caller, rows, 2, counts, 2, many, 1, &unmet));
+    CHECK(unmet.time == 2 && unmet.index == 3);
+    CORE(KEPT, clsm_core_try_batch_if(&caller, none, 2, counts, 1, many, 1, &unmet));
+    CHECK(unmet.time == 2 && unmet.index == 0);
+    CORE(FULL, clsm_core_try_batch_if(&caller, rows, 2, counts, 1, many, 7, &unmet));
+    CHECK(unmet.time == 2);
+    CORE(OK, clsm_core_get(&caller, &KEY, &got));
+    CORE(OK, clsm_core_try_batch_if(&caller, rows, 2, counts, 1, none, 2, &unmet));
+    CHECK(unmet.time == 2);
+    CORE(NOT_FOUND, clsm_core_get(&caller, &KEY, &got));
+    clsm_core_drop_caller(&caller);
+    clsm_core_close(&store);
+}
+
 static void answer_codes(void) {
     clsm_core_store store;
     clsm_core_caller caller;
@@ -214,6 +253,7 @@ static void answer_codes(void) {
 int main(void) {
     refuse_sizes();
     take_all();
+    write_under_conditions();
     answer_codes();
     return passed("core");
 }

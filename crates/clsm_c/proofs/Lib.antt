@@ -1,10 +1,12 @@
 mod Dealt
+mod Expected
 mod Exporting
 mod Filled
 mod GivenBack
 mod HandedOut
 mod Handles
 mod Lent
+mod LentFour
 mod LentOne
 mod Members
 mod Passed

@@ -1,4 +1,5 @@
 pub mod Calls
+pub mod Conditional
 pub mod Lent
 pub mod Opening
 pub mod Values

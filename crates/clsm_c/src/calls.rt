@@ -10,23 +10,25 @@ ghost use Rattle.clsm_c.specs.Calls.{AreMembers, BatchesRows, ByCaller, ByMerger
 ghost use Rattle.clsm_c.specs.Calls.{PutsRow, ReplacesValue, TakesCaller, TakesMerger, TellsBatch, TellsChange, TellsClosed, TellsCounted};
 ghost use Rattle.clsm_c.specs.Calls.{TellsEntries, TellsFreeze, TellsGot, TellsGotAt, TellsOpened, TellsRefused, TellsSweep, TellsTry, Told};
 ghost use Rattle.clsm_c.specs.Calls.{kept_code, refusal_code, value_after};
+ghost use Rattle.clsm_c.specs.Conditional.{BatchesRowsIf, TellsBatchIf, no_members_code};
 
 use crate::codes::{
     BAD_BATCH, BAD_EPOCH, BAD_KEYS, BAD_PATIENCE, BAD_SEATS, BAD_SHARDS, BAD_VALUE, BUSY, Code,
     FULL, IDLE, KEPT, MEMORY, NO_HANDLE, NO_SNAPSHOT, NOT_FOUND, OK, OPEN, OVERTAKEN, PINNED,
     RACED, RUN_FULL, WORN,
 };
+use crate::conditions::to_conditions;
 use crate::opening;
 use crate::shared::{SharedCaller, SharedMerger};
 use crate::slots::{CallerSlot, MergerSlot, StoreSlot};
 use crate::types::{
     CoreAdding, CoreChanged, CoreCode, CoreCounted, CoreEntries, CoreGot, CoreKey, CorePaged,
-    CorePhase, CoreRange, CoreReplacing, CoreRow, CoreSizes, CoreTime, CoreTurn, CoreUsed, TooLong,
-    from_core, to_core, value_or_none,
+    CorePhase, CoreRange, CoreRangeCount, CoreReplacing, CoreRow, CoreSizes, CoreTime, CoreTurn,
+    CoreUnmet, CoreUsed, TooLong, from_core, to_core, value_or_none,
 };
 use clsm_store::{
-    BatchError, Change, Config, Got, Merger, OpenError, Phase, Rmw, Stopped, Time, TryBatchError,
-    TryFroze, TryPutError, TrySwept, Value, Worn,
+    BatchError, BatchIfError, Change, Config, Got, Merger, OpenError, Phase, Rmw, Stopped, Time,
+    TryBatchError, TryBatchIfError, TryFroze, TryPutError, TrySwept, Value, Worn,
 };
 use std::alloc::Global;
 
@@ -248,7 +250,7 @@ pub(crate) fn try_replace(
 // ---- a caller's batches
 
 /// Why rows are no members of a batch.
-enum NoMembers {
+pub(crate) enum NoMembers {
     /// The value of one has too many words.
     TooLong,
     Memory,
@@ -314,6 +316,67 @@ pub(crate) fn try_batch(slot: &mut CallerSlot, rows: &[CoreRow], answer: &mut Co
         }
         Err(NoMembers::TooLong) => BAD_VALUE,
         Err(NoMembers::Memory) => MEMORY,
+    }
+}
+
+/// Tells what a try of a batch with conditions came to, its time, and the place of a condition that
+/// is unmet.
+fn tell_batch_if(came: Result<Time, TryBatchIfError>, answer: &mut CoreUnmet) -> Code
+    ensures { TellsBatchIf answer.new result came }
+{
+    match came {
+        Ok(time) => {
+            answer.time = time;
+            OK
+        }
+        Err(TryBatchIfError::Busy) => BUSY,
+        Err(TryBatchIfError::Refused(BatchIfError::Unmet { index, time })) => {
+            answer.time = time;
+            answer.index = index as u64;
+            KEPT
+        }
+        Err(TryBatchIfError::Refused(BatchIfError::Full { time })) => {
+            answer.time = time;
+            FULL
+        }
+        Err(TryBatchIfError::Refused(_)) => BAD_BATCH,
+    }
+}
+
+/// The code of rows that are no batch.
+fn no_members_code(why: NoMembers) -> Code
+    ensures { result ≡ no_members_code why }
+{
+    match why {
+        NoMembers::TooLong => BAD_VALUE,
+        NoMembers::Memory => MEMORY,
+    }
+}
+
+pub(crate) fn try_batch_if(
+    slot: &mut CallerSlot,
+    expected: &[CoreRow],
+    counts: &[CoreRangeCount],
+    rows: &[CoreRow],
+    answer: &mut CoreUnmet,
+) -> Code
+    ensures { ByCaller (BatchesRowsIf expected.now counts.now rows.now answer.new result) slot.old.caller slot.new.caller result }
+{
+    let Some(caller) = &mut slot.caller else {
+        return NO_HANDLE;
+    };
+    let conditions = match to_conditions(caller.alloc, expected, counts) {
+        Ok(conditions) => conditions,
+        Err(why) => return no_members_code(why),
+    };
+    match to_members(caller.alloc, rows) {
+        Ok(members) => {
+            let came = caller
+                .store
+                .try_batch_if(&mut caller.seat, &conditions, &members);
+            tell_batch_if(came, answer)
+        }
+        Err(why) => no_members_code(why),
     }
 }
 

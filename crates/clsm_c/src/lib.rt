@@ -16,6 +16,7 @@ ghost use Rattle.clsm_store.specs.Sweeping.{TrySweeps};
 ghost use Rattle.clsm_c.specs.Calls.{BatchesRows, ByCaller, ByMerger, LooksAtPhase, Opens, Pages, PutsRow, ReplacesValue, TakesCaller, TakesMerger};
 ghost use Rattle.clsm_c.specs.Calls.{TellsChange, TellsClosed, TellsCounted, TellsEntries, TellsFreeze, TellsGot, TellsGotAt, TellsOpened};
 ghost use Rattle.clsm_c.specs.Calls.{TellsSweep, TellsTry, Told};
+ghost use Rattle.clsm_c.specs.Conditional.{BatchesRowsIf};
 ghost use Rattle.clsm_c.specs.Lent.{both, bytes_of, left, lies};
 ghost use Rattle.clsm_c.specs.contracts.slots.CallerSlot.{the_row as caller_row};
 ghost use Rattle.clsm_c.specs.contracts.slots.MergerSlot.{the_row as merger_row};
@@ -24,6 +25,7 @@ ghost use types.Logic.{sem};
 
 mod calls;
 pub mod codes;
+mod conditions;
 mod opening;
 mod shared;
 mod slots;
@@ -36,8 +38,8 @@ pub use slots::{
 use std::alloc::Global;
 pub use types::{
     CoreAdding, CoreChanged, CoreCode, CoreCounted, CoreEntries, CoreGot, CoreKey, CorePaged,
-    CorePhase, CoreRange, CoreReplacing, CoreRooms, CoreRow, CoreSizes, CoreTime, CoreTurn,
-    CoreUsed, CoreValue,
+    CorePhase, CoreRange, CoreRangeCount, CoreReplacing, CoreRooms, CoreRow, CoreSizes, CoreTime,
+    CoreTurn, CoreUnmet, CoreUsed, CoreValue,
 };
 
 // ---- stores
@@ -191,6 +193,36 @@ pub unsafe extern "C" fn clsm_core_try_batch(
     ensures* { sem 𝓛 (left caller_row caller (λ new. ByCaller (BatchesRows rows.now answer.new result) old.caller new.caller result)) }
 {
     calls::try_batch(unsafe { &mut *caller.cast::<CallerSlot>() }, rows, answer)
+}
+
+/// Writes the rows as one batch, as `clsm_core_try_batch`, if each expected row has its value, or,
+/// if it has none, its key has none, and each count is the number of keys of its range that have a
+/// value: all of that at the batch's own time. Answers `OK` and the time of the first row; with no
+/// row it writes nothing, and answers a time at which all that holds. It takes memory for what it
+/// is passed while it runs, and tries to take the lock once. Refused, in this order, with `MEMORY`
+/// and `BAD_VALUE` as there, for the expected rows first, `BAD_BATCH` if there are more rows than
+/// an epoch has cells, `BUSY` if the lock was not free, `KEPT`, the clock's time and the place of
+/// the first that does not hold, and `FULL` and the clock's time if the epoch has fewer timestamps
+/// left than there are rows: nothing was written then.
+#[unsafe(no_mangle)]
+pub unsafe extern "C" fn clsm_core_try_batch_if(
+    caller: *mut u8,
+    expected: &[CoreRow],
+    counts: &[CoreRangeCount],
+    rows: &[CoreRow],
+    answer: &mut CoreUnmet,
+) -> u32
+    ghost old: { CallerSlot }
+    requires* { sem 𝓛 (lies caller_row caller old) }
+    ensures* { sem 𝓛 (left caller_row caller (λ new. ByCaller (BatchesRowsIf expected.now counts.now rows.now answer.new result) old.caller new.caller result)) }
+{
+    calls::try_batch_if(
+        unsafe { &mut *caller.cast::<CallerSlot>() },
+        expected,
+        counts,
+        rows,
+        answer,
+    )
 }
 
 // ---- a caller's read-modify-writes

@@ -67,6 +67,16 @@ pub struct CoreRange {
     pub last: u64,
 }
 
+/// The keys from the first to the last, both included, and how many of them are expected to have a
+/// value.
+#[repr(C)]
+#[derive(Clone, Copy)]
+pub struct CoreRangeCount {
+    pub first: u64,
+    pub last: u64,
+    pub keys: u64,
+}
+
 /// How many timestamps of an epoch are enough to freeze it.
 #[repr(C)]
 #[derive(Clone, Copy)]
@@ -102,6 +112,15 @@ pub struct CoreCode {
 #[derive(Clone, Copy)]
 pub struct CoreTime {
     pub time: u64,
+}
+
+/// The time of a batch with conditions; and, where one does not hold, its place: counted from 0,
+/// the expected rows first and behind them the counts.
+#[repr(C)]
+#[derive(Clone, Copy)]
+pub struct CoreUnmet {
+    pub time: u64,
+    pub index: u64,
 }
 
 /// The time of a read, and what it found.
