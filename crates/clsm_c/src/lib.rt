@@ -214,7 +214,8 @@ pub unsafe extern "C" fn clsm_core_try_batch_if(
 ) -> u32
     ghost old: { CallerSlot }
     requires* { sem 𝓛 (lies caller_row caller old) }
-    ensures* { sem 𝓛 (left caller_row caller (λ new. ByCaller (BatchesRowsIf expected.now counts.now rows.now answer.new result) old.caller new.caller result)) }
+    ensures* { sem 𝓛 (left caller_row caller (λ new. ByCaller (BatchesRowsIf expected.now counts.now rows.now answer.new result)
+        old.caller new.caller result)) }
 {
     calls::try_batch_if(
         unsafe { &mut *caller.cast::<CallerSlot>() },

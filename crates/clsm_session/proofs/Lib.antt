@@ -1,2 +1,3 @@
 pub mod Places
 pub mod Waiting
+pub mod WaitingIf

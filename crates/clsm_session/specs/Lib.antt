@@ -1,3 +1,4 @@
+pub mod Conditional
 pub mod Ended
 pub mod Places
 pub mod Promises

@@ -8,15 +8,19 @@ use Rattle.clsm_model.specs.declared.record.Deed.TheVariants.{Batch, Rmw as Chan
 use Rattle.clsm_model.specs.declared.slot.Change.{Change}
 use Rattle.clsm_model.specs.Right.{Member}
 use Rattle.clsm_model.specs.Seats.{FitsDeed}
+use Rattle.clsm_store_calls.specs.declared.conditions.Condition.{Condition}
 use Rattle.clsm_store_calls.specs.declared.got.Rmw.{Rmw}
+use Rattle.clsm_store_calls.specs.Conditional.{AnswersIf, AreWritable, MeetsAll}
 use Rattle.clsm_store_calls.specs.Seats.{Answers, IsSameSeat, Refuses, SeatState}
 use Rattle.clsm_store_calls.specs.Tally.{CancelsNone}
 use Rattle.clsm_store.specs.declared.play.answer.Answer.{Answer}
 use Rattle.clsm_store.specs.declared.play.call.Call.{Call}
 use Rattle.clsm_store.specs.Play.{PlaysCall, ReadsAtClock, WantsMemory}
 use Rattle.clsm_store.specs.Promises.{MakesChange}
+use Rattle.clsm_session.specs.declared.refusal.BatchIfRefused.{BatchIfRefused}
 use Rattle.clsm_session.specs.declared.refusal.BatchRefused.{BatchRefused}
 use Rattle.clsm_session.specs.declared.refusal.Refused.{Refused}
+use Rattle.clsm_session.specs.Conditional.{GivesUpNone, IsRefusedIfAtLast}
 use Rattle.clsm_session.specs.Waiting.{CountsTries, FindsFull, GivesUpByAnswer, IsFullAtLast, IsPatient, IsRefusedAtLast, RefusesCall}
 
 -- ---- writes
@@ -41,6 +45,22 @@ pub record WaitsToWriteBatch (old new : SeatState) (members : List Member) (resu
   pub cancels : CancelsNone old.tally new.tally
   -- refused: this is no batch; or in its last hold of the lock the members did not fit, and why
   pub refused : IfErr result (IsRefusedAtLast old new members)
+
+-- batch_if
+pub record WaitsToWriteBatchIf (old new : SeatState) (conditions : List Condition) (members : List Member)
+    (result : Result ℕ BatchIfRefused) : Type 0 where
+  -- answered with a time: one record more, the batch at that time; or with no member none, and the
+  -- time is the due
+  pub written : IfOk result (AnswersIf old new members)
+  -- all conditions hold at that time, which is the clock as the seat looked at it in its last hold
+  pub holds : IfOk result (MeetsAll old new conditions)
+  -- and then it has at most as many members as an epoch has cells, and each writes
+  pub fits : IfOk result (λ time. AreWritable old.store.layout.cells members)
+  -- in none of its tries it gave up a time of its own, or cancelled one of others too early
+  pub gives_up : GivesUpNone old new
+  -- refused: the members cannot be written; or in its last hold of the lock a condition did not
+  -- hold, or else the members did not fit, and why
+  pub refused : IfErr result (IsRefusedIfAtLast old new conditions members)
 
 -- ---- read-modify-writes
 

@@ -5,16 +5,16 @@ ghost use Rattle.clsm_model.specs.Changes.{Adds, PutsIfAbsent};
 ghost use Rattle.clsm_store.specs.Promises.{ClosesSnapshot, CountsRange, FillsPage, Gets, GetsAtIfOpen, GivesNextPage, GivesPage, Hears, OpensSnapshot};
 ghost use Rattle.clsm_store.specs.Promises.{Scans, ScansAnew, Tells, VisitsRange};
 ghost use Rattle.clsm_session.specs.Places.{HasPlace};
-ghost use Rattle.clsm_session.specs.Promises.{WaitsToChangeBy, WaitsToPlay, WaitsToWrite, WaitsToWriteBatch};
+ghost use Rattle.clsm_session.specs.Promises.{WaitsToChangeBy, WaitsToPlay, WaitsToWrite, WaitsToWriteBatch, WaitsToWriteBatchIf};
 
 use crate::board::Board;
 use crate::job::Place;
-use crate::refusal::{BatchRefused, Refused};
-use crate::writing;
+use crate::refusal::{BatchIfRefused, BatchRefused, Refused};
+use crate::{conditional, writing};
 use clsm_model::Key;
 use clsm_store::{
-    Answer, Call, Caller, Change, Counted, Filled, Free, Got, Memory, Message, Open, Page, Pages,
-    Rmw, Row, Scan, Seat, Time, Value, added, put_if_absent,
+    Answer, Call, Caller, Change, Condition, Counted, Filled, Free, Got, Memory, Message, Open,
+    Page, Pages, Rmw, Row, Scan, Seat, Time, Value, added, put_if_absent,
 };
 use std::alloc::Global;
 use std::marker::{Model, PhantomData};
@@ -137,6 +137,22 @@ impl<'a, R: Wait, P: Place> SessionCaller<'a, R, P> {
         ensures { WaitsToWriteBatch self.old self.new members.now result }
     {
         writing::batch(self.rt, self.board, &mut self.caller, members)
+    }
+
+    /// Writes all members as one batch if each condition holds at the batch's own time, as
+    /// `Store::batch_if`. It waits for room as `put`, and tests the conditions anew then. Refused
+    /// with `Unmet` if one does not hold, as `put` if there is no room, and, before it takes the
+    /// lock, with `TooLong` where there are more members than an epoch has cells, and `Keep` where
+    /// a member keeps its key.
+    #[tactic(auto, using(crate::proofs::Places::cells_of))]
+    pub fn batch_if(
+        &mut self,
+        conditions: &[Condition],
+        members: &[(u64, Change)],
+    ) -> Result<Time, BatchIfRefused>
+        ensures { WaitsToWriteBatchIf self.old self.new conditions.now members.now result }
+    {
+        conditional::batch_if(self.rt, self.board, &mut self.caller, conditions, members)
     }
 
     /// As `Store::get`.

@@ -4,6 +4,7 @@
 
 mod board;
 mod caller;
+mod conditional;
 mod gate;
 mod job;
 mod merging;
@@ -14,9 +15,9 @@ mod writing;
 
 pub use caller::SessionCaller;
 pub use clsm_store::{
-    Answer, Call, Caller, Change, Config, Counted, Filled, Got, Memory, Message, Open, OpenError,
-    Page, Pages, Rmw, Row, Rows, Scan, Seat, Sink, Store, Time, Value,
+    Answer, Call, Caller, Change, Condition, Config, Counted, Filled, Got, Memory, Message, Open,
+    OpenError, Page, Pages, Rmw, Row, Rows, Scan, Seat, Sink, Store, Time, Value,
 };
 pub use job::{Job, Place};
-pub use refusal::{BatchRefused, Refused, SessionError};
+pub use refusal::{BatchIfRefused, BatchRefused, Refused, SessionError};
 pub use session::{Ended, with_store};

@@ -1,7 +1,7 @@
 //! Why a session, and why a call of it, is refused.
 ghost use Rattle.std.specs.Prelude.{◌≡◌};
 
-use clsm_model::OpenError;
+use clsm_model::{OpenError, Time};
 use thiserror::Error;
 
 /// Why a write of a session is refused: the epoch was full, and the merger, called for this write,
@@ -43,6 +43,23 @@ impl From<Refused> for BatchRefused {
     fn from(refused: Refused) -> BatchRefused {
         BatchRefused::NoRoom(refused)
     }
+}
+
+/// Why a batch with conditions of a session is refused. Nothing was written.
+#[derive(Clone, Copy, PartialEq, Eq, Debug, Error)]
+pub enum BatchIfRefused {
+    /// It has more members than an epoch has cells.
+    #[error("too long")]
+    TooLong,
+    /// One of its members keeps its key, so that it is no write.
+    #[error("keep")]
+    Keep,
+    /// The condition at this place did not hold at this time, and all before it did.
+    #[error("unmet {index} @{time}")]
+    Unmet { index: usize, time: Time },
+    /// All conditions held; and as a write.
+    #[error(transparent)]
+    NoRoom(Refused),
 }
 
 /// Why a session hands nothing back.

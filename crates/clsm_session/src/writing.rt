@@ -13,7 +13,7 @@ use std::sync::Wait;
 /// A write is tried no more often than this, and then waits forever: in centuries, as each try
 /// takes the lock. A seat counts its holds of the lock modulo 2^64, so that fewer always move its
 /// count.
-const MOST_TRIES: u64 = u64::MAX;
+pub(crate) const MOST_TRIES: u64 = u64::MAX;
 
 /// Tries to write the value at the key, or with none to remove it.
 fn try_write<'a, R: Wait>(

@@ -95,7 +95,8 @@ module _ {busy : ℕ} (words : WordTable) (a : RawState) (b h : Known) (f : RawS
 
   -- ---- answered, or refused in its hold
 
-  pub met_at : (conditions : List Condition) (members : List Member) (t : ℕ) → WritesAlone b h conditions members t → MeetsAll (seat_of a) (seat_of f) conditions t
+  pub met_at : (conditions : List Condition) (members : List Member) (t : ℕ) → WritesAlone b h conditions members t
+      → MeetsAll (seat_of a) (seat_of f) conditions t
   met_at conditions members t wrote =
       record { reads = reads_alone t wrote.limit wrote.stands; holds = all_known t wrote.limit wrote.stands conditions wrote.holds }
 
