@@ -3,7 +3,7 @@ ghost use Rattle.std.specs.Prelude.{◌≡◌};
 ghost use Rattle.clsm_model.specs.declared.record.Deed.TheVariants.{Put, Remove};
 ghost use Rattle.clsm_model.specs.Changes.{Adds, PutsIfAbsent};
 ghost use Rattle.clsm_store.specs.Promises.{ClosesSnapshot, CountsRange, FillsPage, Gets, GetsAtIfOpen, GivesNextPage, GivesPage, Hears, OpensSnapshot};
-ghost use Rattle.clsm_store.specs.Promises.{Scans, ScansAnew, Tells, VisitsRange};
+ghost use Rattle.clsm_store.specs.Promises.{FillsPageDown, Scans, ScansAnew, Tells, VisitsRange};
 ghost use Rattle.clsm_session.specs.Places.{HasPlace};
 ghost use Rattle.clsm_session.specs.Promises.{WaitsToChangeBy, WaitsToPlay, WaitsToWrite, WaitsToWriteBatch};
 
@@ -189,6 +189,13 @@ impl<'a, R: Wait, P: Place> SessionCaller<'a, R, P> {
         ensures { FillsPage T.pair T.is_row self.old self.new from hi rows.old rows.new result }
     {
         self.caller.page_into(from, hi, rows)
+    }
+
+    /// As `Store::page_down_into`.
+    pub fn page_down_into<T: Row>(&mut self, lo: Key, hi: Key, rows: &mut [T]) -> Filled
+        ensures { FillsPageDown T.pair T.is_row self.old self.new lo hi rows.old rows.new result }
+    {
+        self.caller.page_down_into(self.alloc, lo, hi, rows)
     }
 
     /// As `Caller::next_page`.
