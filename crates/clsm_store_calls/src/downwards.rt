@@ -1,5 +1,5 @@
-//! Pages downwards at the words: the greatest keys of a range, at one time. Each is recorded as a page
-//! of no rows.
+//! Pages downwards at the words: the greatest keys of a range, at one time. Each is recorded as a
+//! page of no rows.
 ghost use Rattle.std.specs.Prelude.{◌≡◌, [], None, Some, length, map, take};
 ghost use Rattle.clsm_model.specs.{History.plain, Right.Reads, Right.page_deed};
 ghost use Rattle.clsm_law.specs.{declared.step.End.TheVariants.Recorded, OpenSteps.open_time, Views.next_word};
