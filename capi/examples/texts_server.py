@@ -3,8 +3,9 @@
     python3 texts_server.py 6379        then redis-cli -p 6379
     python3 texts_server.py             serves some clients of its own, and ends
 
-It knows GET, MGET, SET, DEL, INCR and PING. Each is a transaction, and so are all commands between
-MULTI and EXEC: they are done at one moment, if the client still finds there what it watches.
+It knows GET, MGET, SET, DEL, INCR and PING. A command that reads has a snapshot, and each other one
+is a transaction. So are all commands between MULTI and EXEC: they are done at one moment, if the
+client still finds there what it watches.
 """
 
 import re
@@ -75,8 +76,9 @@ COMMANDS: Dict[bytes, Tuple[Callable[..., bytes], int, int]] = {
     b"INCR": (incr, 1, 1),
     b"PING": (lambda _, *said: text_answer(*said) if said else b"+PONG\r\n", 0, 1),
 }
+READS = {b"GET", b"MGET", b"PING"}
 
-# ---- Clients# ---- Clients
+# ---- Clients
 
 
 class Client:
@@ -102,6 +104,9 @@ class Client:
                 raise ValueError(f"wrong number of arguments for '{shown}' command")
             if name in CONTROLS:
                 return function(self, *words)
+            if self.queue is None and name in READS:
+                with self.store.snapshot() as rows:
+                    return function(Texts(rows), *words)
             if self.queue is None:
                 return self.store.transact(lambda rows: function(Texts(rows), *words), TRIES)
         except (cupolanettle.Error, ValueError) as error:  # or there is no room
