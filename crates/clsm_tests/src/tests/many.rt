@@ -115,7 +115,7 @@ const HELD: &[Step] = &[
 ];
 
 /// Pairs of neighbours are written at once, by random calls among others.
-const CALLS: &[Step] = &[(Act::Calls(Mix::Unchanging, 4, 500), Answer::Done)];
+const CALLS: &[Step] = &[(Act::Calls(Mix::Changing, 4, 500), Answer::Done)];
 
 pub(super) const CASES: &[Case] = &[
     alone!("many keys are read at one time", STEPS),
@@ -133,7 +133,7 @@ pub(super) const CASES: &[Case] = &[
             run: 4_096,
             ..FOUR_CELLS
         },
-        phases: &[&[&[(Act::Sweeps(20), Answer::Count(20))], CALLS, CALLS, CALLS]],
+        phases: &[&[&[(Act::Sweeps(48), Answer::Count(48))], CALLS, CALLS, CALLS]],
         ..PLAIN
     },
 ];
