@@ -90,7 +90,7 @@ const STEPS: &[Step] = &[
     (Act::GetMany(0, 4), Answer::Rows(8, 2)),
 ];
 
-/// Seat 1 is held behind its look at the clock, in a read of two keys.
+/// Seat 1 is held behind its look at the clock, before it settles what is below.
 const BETWEEN: Hold = Hold {
     seat: 1,
     kind: Some(Kind::Look(Word::State(0))),
@@ -100,7 +100,7 @@ const BETWEEN: Hold = Hold {
 
 const OLD: &[Step] = &[(Act::BatchTwo(1, 10), Answer::At(0))];
 
-/// Both keys are removed meanwhile, and a third one is written.
+/// Both keys are removed meanwhile.
 const BESIDE: &[Step] = &[
     WAIT,
     (Act::Remove(1), Answer::At(2)),
