@@ -10,6 +10,7 @@ mod gate;
 mod held;
 mod hints;
 mod hot;
+mod many;
 mod messages;
 mod model;
 mod moves;
