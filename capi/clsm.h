@@ -352,8 +352,9 @@ int clsm_page(clsm_caller *caller, uint64_t first, uint64_t last, clsm_row *rows
               clsm_page_end *end);
 
 /* As clsm_page, but by falling key: the last rows of the range, from its end on. If end->more, the
- * last key of the next page is end->next. Each row costs a search in what was written since the
- * last merges, where a page upwards goes on from the row before. */
+ * last key of the next page is end->next. It is read in windows of up to 32 rows, each upwards, so
+ * it costs up to four times what clsm_page does; and further windows, up to 64, before its first
+ * row where keys are spread unevenly. */
 int clsm_page_down(clsm_caller *caller, uint64_t last, uint64_t first, clsm_row *rows, size_t room,
                    clsm_page_end *end);
 

@@ -76,8 +76,8 @@ impl Caller {
     /// The last rows of the range by falling key, at most so many, as they are at one moment. The
     /// next page ends at the key that is told as the next one.
     ///
-    /// It takes time and memory as [`page`](Caller::page), but each row costs a search in what was
-    /// written since the last merges.
+    /// It takes memory as [`page`](Caller::page), and up to four times as long: it is read in
+    /// windows, each upwards.
     ///
     /// # Errors
     ///
