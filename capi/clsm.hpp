@@ -765,6 +765,11 @@ public:
         detail::thrower()(clsm_store_snapshot(raw(), &opened));
         return clsm::snapshot({store_, opened});
     }
+    // As caller::transact, by a caller that it opens for that: a thread with many has one of its own.
+    template <class Function> auto transact(Function function, unsigned tries = 100) const {
+        clsm::caller own = caller();
+        return own.transact(std::move(function), tries);
+    }
     // Merges all that was written so far: CLSM_OK, CLSM_IDLE, or why not all was merged.
     clsm_code sweep() const noexcept { return static_cast<clsm_code>(clsm_sweep(raw())); }
     clsm_statistics stats() const {

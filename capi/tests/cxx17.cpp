@@ -199,6 +199,9 @@ void transactions(const clsm::store &store) {
         runs = 7;
     }
     CHECK(runs == 7 && caller.contains(40) && store.stats().snapshots == 0);
+    CHECK(store.transact([](clsm::transaction &t) { return t.add(44, 1).after; }) == value(1));
+    store.transact([](clsm::transaction &t) { t.remove(44); });
+    CHECK(!store.caller().contains(44));
     for (std::uint64_t key = 40; key < 44; key++) caller.remove(key);
 }
 

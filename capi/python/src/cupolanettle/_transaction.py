@@ -81,11 +81,11 @@ class Transaction:
         return self._reads[number] if own is None else own[0]
 
     def _read(self, numbers: List[int]) -> List[Optional[Value]]:
-        known = self._writes.keys() | self._reads.keys()
-        unknown = [number for number in numbers if number not in known]
+        reads, writes = self._reads, self._writes
+        unknown = [number for number in numbers if number not in writes and number not in reads]
         if unknown:
             found = core.Snapshot._get_many(self._reader(), unknown)
-            self._reads.update(zip(unknown, found))
+            reads.update(zip(unknown, found))
         return [self._found(number) for number in numbers]
 
     def __getitem__(self, key: int) -> Value:
