@@ -23,9 +23,6 @@ pub(super) enum Act {
     Change(u64),
     Get(u64),
     GetAt(u64),
-    /// So many keys from this one on, at one time.
-    GetMany(u64, usize),
-    GetManyAt(u64, usize),
     /// All keys from this one on.
     Scan(u64),
     /// So many keys from this one on.

@@ -129,7 +129,7 @@ fn batch_of(rt: &impl Abort, alloc: Global, writes: &[Write]) -> Call {
     Call::Batch { members }
 }
 
-/// The call that the act is. A change is none of these, nor is a read of many keys.
+/// The call that the act is. A change is none of these.
 fn call_of(rt: &impl Abort, alloc: Global, act: &Act) -> Call {
     let hi = u64::MAX;
     match *act {
@@ -200,11 +200,8 @@ impl<'a> Actor<'a> {
 
     /// A call of the seat, whose record is kept.
     fn call<R: Abort + Wait>(&mut self, rt: &R, alloc: Global, act: &Act) -> Answer {
-        match act {
-            Act::Change(key) => return self.change(rt, *key),
-            Act::GetMany(from, keys) => return self.get_many(rt, *from, *keys),
-            Act::GetManyAt(from, keys) => return self.get_many_at(rt, *from, *keys),
-            _ => (),
+        if let Act::Change(key) = act {
+            return self.change(rt, *key);
         }
         let call = call_of(rt, alloc, act);
         let called = self.caller.play(rt, alloc, &call);

@@ -51,7 +51,6 @@ pub(super) fn draw(load: &Load, word: u64, own: u64, reads_snapshot: bool) -> Ac
         11 | 12 if matches!(load.mix, Mix::Changing) => Act::Change(key),
         13 if reads_snapshot => Act::GetAt(key),
         14 => Act::BatchTwo(key, value),
-        15 => Act::GetMany(key, 4),
         _ => Act::Get(key),
     }
 }

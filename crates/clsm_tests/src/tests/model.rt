@@ -33,7 +33,7 @@ fn same(is_same: bool, row: Wrong) -> Result<(), Wrong> {
     if is_same { Ok(()) } else { Err(row) }
 }
 
-pub(super) fn value_of(word: u64) -> Value {
+fn value_of(word: u64) -> Value {
     Value::new(&[word]).unwrap()
 }
 

@@ -3,7 +3,7 @@ use super::act::{Act, Answer, LET_GO, Step, Turn, WAIT};
 use super::case::{Case, FOUR_CELLS, NONE, PLAIN, Phase, alone, check};
 use super::drawn::Mix;
 use super::gate::{ALL, ALL_STEPS, AT_DECIDE, Hold, NOBODY, NOWHERE, OPEN};
-use super::{batches, held, hot, many};
+use super::{batches, held, hot};
 use clsm_law::Word;
 use clsm_store::Config;
 use clsm_words::Kind;
@@ -339,7 +339,6 @@ fn cases_are_answered(rt: HostRuntime) -> Result<(), Fail> {
         batches::CASES,
         held::CASES,
         hot::CASES,
-        many::CASES,
         LOOKS,
         THREADS,
         ORDERED,
