@@ -18,7 +18,7 @@ impl<P: Pace> Store<P> {
     /// Writes all members as one batch, as `batch`, if each condition holds at the batch's own time,
     /// and answers that time: below it the map has what the conditions say, and from it on what the
     /// members say. With no member it is a test of the conditions alone, answered with a time at
-    /// which all hold, which is the seat's due from then on; nothing is recorded then. A condition
+    /// which all hold, which is the seat's new due; nothing is recorded then. A condition
     /// says what a key has, or how many keys of a range have a value: the rows that a scan found and
     /// their number say that the range is the same.
     ///
@@ -29,7 +29,7 @@ impl<P: Pace> Store<P> {
     ///
     /// Refused, in this order: with `TooLong` if there are more members than an epoch has cells,
     /// `Keep` if one keeps its key, each before it enters the lock; with `Unmet` and the place of
-    /// the first condition that does not hold at the clock, which is the seat's due from then on;
+    /// the first condition that does not hold at the clock, which is the seat's new due;
     /// with `Full` if all hold, but fewer times are left of the epoch than there are members.
     /// Nothing was written then, and but for that due the seat is as before. (The compare and then
     /// of etcd's transactions; Sinfonia's minitransactions.)

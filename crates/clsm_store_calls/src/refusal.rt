@@ -90,7 +90,7 @@ pub enum BatchIfError {
     #[error("keep")]
     Keep,
     /// While the seat held the lock alone, the condition at this place did not hold, and all before
-    /// it did; the clock stood at this time, which is the seat's due from then on.
+    /// it did; the clock stood at this time, which is the seat's new due.
     #[error("unmet {index} @{time}")]
     Unmet { index: usize, time: Time },
     /// All conditions held, but fewer times were left below the limit than the batch has members;
