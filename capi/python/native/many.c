@@ -1,9 +1,6 @@
 /* Many keys at one time: reads of several keys, the ends of a range, batches with conditions. */
 #include "native.h"
 
-/* So many keys are read while the interpreter's lock is kept. */
-enum { FEW_KEYS = 256 };
-
 /* ---- Several keys */
 
 /* The keys of a list or a tuple, and room for their values. */

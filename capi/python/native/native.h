@@ -114,6 +114,7 @@ struct call {
     const uint64_t *many; /* keys, and a value of each */
     clsm_value *values;
     uint64_t keys;
+    void *own; /* what one kind of call has besides */
 };
 
 /* Makes a call by a caller of this range. It follows what was seen, and is followed, so nothing
@@ -158,11 +159,20 @@ extern PyType_Spec clsm_snapshot_spec;
 
 /* ---- many.c: methods of stores and of snapshots */
 
+/* So many keys are read while the interpreter's lock is kept. */
+enum { FEW_KEYS = 256 };
+
 PyObject *clsm_get_many_of(struct store *self, PyObject *keys);
 PyObject *clsm_get_many_at(struct snapshot *self, PyObject *keys);
 PyObject *clsm_end_of(struct store *self, PyObject *const *arguments, Py_ssize_t count);
 PyObject *clsm_end_at(struct snapshot *self, PyObject *const *arguments, Py_ssize_t count);
 PyObject *clsm_write_if(struct store *self, PyObject *const *arguments, Py_ssize_t count);
+
+/* ---- buffers.c: methods of stores and of snapshots */
+
+PyObject *clsm_get_into_of(struct store *self, PyObject *const *arguments, Py_ssize_t count);
+PyObject *clsm_get_into_at(struct snapshot *self, PyObject *const *arguments, Py_ssize_t count);
+PyObject *clsm_put_words(struct store *self, PyObject *const *arguments, Py_ssize_t count);
 
 /* ---- rows.c */
 

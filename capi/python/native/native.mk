@@ -8,7 +8,7 @@ PYTHON_HEADERS := $(shell $(PYTHON) -c 'import sys, sysconfig as config; \
 HAS_PYTHON_HEADERS := $(if $(PYTHON_HEADERS),$(wildcard $(PYTHON_HEADERS)/Python.h))
 
 NATIVE = $(OUT)/_native.abi3.so
-NATIVE_PARTS = many module rows snapshot store values waiting
+NATIVE_PARTS = buffers many module rows snapshot store values waiting
 NATIVE_OBJECTS = $(NATIVE_PARTS:%=$(OUT)/native/%.o)
 NATIVE_C = $(C) -I. -isystem $(PYTHON_HEADERS) -fvisibility=hidden
 

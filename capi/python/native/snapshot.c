@@ -147,6 +147,7 @@ static void dealloc(PyObject *object) {
 static PyMethodDef methods[] = {
     {"_get", METHOD(get), METH_FASTCALL, NULL},
     {"_get_many", METHOD(clsm_get_many_at), METH_O, NULL},
+    {"_get_into", METHOD(clsm_get_into_at), METH_FASTCALL, NULL},
     {"_end", METHOD(clsm_end_at), METH_FASTCALL, NULL},
     {"_has", METHOD(has), METH_O, NULL},
     {"_count", METHOD(count), METH_FASTCALL, NULL},

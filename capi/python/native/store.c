@@ -487,6 +487,7 @@ static void dealloc(PyObject *object) {
 static PyMethodDef methods[] = {
     {"_get", METHOD(get), METH_FASTCALL, NULL},
     {"_get_many", METHOD(clsm_get_many_of), METH_O, NULL},
+    {"_get_into", METHOD(clsm_get_into_of), METH_FASTCALL, NULL},
     {"_end", METHOD(clsm_end_of), METH_FASTCALL, NULL},
     {"_has", METHOD(has), METH_O, NULL},
     {"_count", METHOD(count), METH_FASTCALL, NULL},
@@ -495,6 +496,7 @@ static PyMethodDef methods[] = {
     {"_put", METHOD(put), METH_FASTCALL, NULL},
     {"_remove", METHOD(remove_key), METH_O, NULL},
     {"_write_rows", METHOD(write_rows), METH_O, NULL},
+    {"_put_words", METHOD(clsm_put_words), METH_FASTCALL, NULL},
     {"_write_if", METHOD(clsm_write_if), METH_FASTCALL, NULL},
     {"_add", METHOD(add), METH_FASTCALL, NULL},
     {"_put_if_absent", METHOD(put_if_absent), METH_FASTCALL, NULL},

@@ -13,6 +13,7 @@ import cupolanettle
 from cupolanettle import _core as core
 from cupolanettle._finding import native
 from cupolanettle._reading import Reader
+from cupolanettle._writing import Writer
 
 from .support import PROJECT, SOURCES
 
@@ -26,7 +27,7 @@ def public_classes() -> Iterator[Tuple[str, Any]]:
 
 
 def public_members() -> Iterator[Tuple[str, Any]]:
-    for name, kind in [*public_classes(), ("Reader", Reader)]:
+    for name, kind in [*public_classes(), ("Reader", Reader), ("Writer", Writer)]:
         for member, value in vars(kind).items():
             is_call = inspect.isfunction(value) or isinstance(value, property)
             if is_call and (member in OPERATORS or not member.startswith("_")):

@@ -45,6 +45,9 @@ class Coded(Reader):
         found = super()._get_many([self._keys.key_of(key) for key in keys])
         return [self._decoded(words) for words in found]
 
+    def _get_into(self, *_: Any, **__: Any) -> int:
+        raise TypeError("a store with codecs takes no buffers")
+
     def _end(self, first: int, last: int, falls: bool) -> Any:
         row = super()._end(first, last, falls)
         return None if row is None else (self._keys.of_key(row[0]), self._values.of_value(row[1]))
@@ -88,6 +91,9 @@ class CodedStore(Coded, Store):
 
     def _put(self, key: Any, value: Any) -> None:
         super()._put(self._keys.key_of(key), self._values.value_of(value))
+
+    def _put_words(self, *_: Any, **__: Any) -> None:
+        raise TypeError("a store with codecs takes no buffers")
 
     def _remove(self, key: Any) -> None:
         super()._remove(self._keys.key_of(key))

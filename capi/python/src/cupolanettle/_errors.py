@@ -63,6 +63,8 @@ IDLE = int(Code.IDLE)
 class Error(Exception):
     """The library refused a call, which has changed nothing.
 
+    But :meth:`Store.put_many` has written the first rows then, so many as ``written`` says.
+
     ``code`` says why; the text is its name. Some codes have classes of their own:
     :class:`RunFull`, :class:`VersionsFull`, :class:`OwnSnapshot`, :class:`NoSeat`,
     :class:`Conflict` and :class:`Closed`. The others are ``MEMORY`` (memory ran out), ``WORN`` (the times of writes end
@@ -75,6 +77,7 @@ class Error(Exception):
     """
 
     code: int
+    written: int = 0
 
     def __init__(self, code: int) -> None:
         super().__init__(code)

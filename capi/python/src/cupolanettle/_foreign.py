@@ -34,6 +34,7 @@ from typing import (
 
 from . import _library as library
 from ._errors import IDLE, KEPT, NOT_FOUND, OK, Code, error_of
+from ._foreign_buffers import Into, batches_of
 from ._handles import Alarm, Caller, Handle, Lease, Silent, View, prune, switch_off, thread_number
 from ._values import Row, Value, key_of, word_of, words_of
 
@@ -276,6 +277,18 @@ class Store:
         self._check(code)
         return [_value_of(value) for value in values]
 
+    def _get_into(
+        self, keys: memoryview, values: memoryview, default: int, found: memoryview
+    ) -> int:
+        into = Into(keys, values, found)
+        if into.count <= _FEW_KEYS:
+            pointer = self._main.pointer
+            code = self._exclusively(library.get_few, pointer, *into.arguments())
+        else:
+            code = self._call(_READERS, library.get_many, *into.arguments())
+        self._check(code)
+        return into.leave_words(default)
+
     def _end(self, first: int, last: int, falls: bool) -> Optional[Row]:
         """The row of the least key of the range, or of the greatest one."""
         row = library.Row()
@@ -351,6 +364,14 @@ class Store:
         self._check(self._call_to_write(library.batch, copied, count))
         if rows.startswith(written):  # a handler of a signal may have written or cleared them
             del rows[: len(written)]
+
+    def _put_words(
+        self, keys: memoryview, words: memoryview, room: int, written: List[int]
+    ) -> None:
+        """Writes batches of so many rows; the first item of the list tells how many were written."""
+        for rows, count in batches_of(keys, words, room):
+            self._check(self._call_to_write(library.batch, rows, count))
+            written[0] += count
 
     def _write_if(self, expected: bytes, counts: bytes, rows: bytes) -> Optional[int]:
         """Writes rows if the conditions hold: the place of the first one that does not."""
@@ -513,6 +534,16 @@ class Snapshot:
             code = library.snapshot_get_many(view.pointer, numbers, len(numbers), values)
         self._store._check(code)
         return [_value_of(value) for value in values]
+
+    def _get_into(
+        self, keys: memoryview, values: memoryview, default: int, found: memoryview
+    ) -> int:
+        into = Into(keys, values, found)
+        view = self._view
+        with view.lock:
+            code = library.snapshot_get_many(view.pointer, *into.arguments())
+        self._store._check(code)
+        return into.leave_words(default)
 
     def _end(self, first: int, last: int, falls: bool) -> Optional[Row]:
         """The row of the least key of the range, or of the greatest one."""

@@ -5,7 +5,8 @@ from __future__ import annotations
 from typing import Any, Iterable, List, NoReturn, Optional, Tuple, TypeVar, Union, overload
 
 from . import _core as core
-from ._values import Row, Value, key_of, range_of
+from ._buffers import items_of, marks_in, room_in, words_in
+from ._values import Row, Value, key_of, range_of, word_of
 
 Default = TypeVar("Default")
 
@@ -51,6 +52,11 @@ class Reader:
         raise NotImplementedError
 
     def _get_many(self, keys: List[int]) -> List[Optional[Value]]:
+        raise NotImplementedError
+
+    def _get_into(
+        self, keys: memoryview, values: memoryview, default: int, found: memoryview
+    ) -> int:
         raise NotImplementedError
 
     def _end(self, first: int, last: int, falls: bool) -> Optional[Row]:
@@ -120,6 +126,37 @@ class Reader:
         [(80, 81), None, 70]
         """
         return self._get_many(list(keys))
+
+    def get_into(self, keys: Any, values: Any, default: int = 0, found: Any = None) -> int:
+        """Reads the keys in a buffer at one moment, into another buffer. How many have a value.
+
+        The word of each key goes into ``values``, at the place of the key, or ``default`` if the
+        key has no value; ``found``, if it is given, gets a byte of 1 or 0 there. Both may be
+        written over the keys. It is for many keys: no object is made for any of them, and it takes
+        80 bytes of memory for each. For more than 256 it lets the interpreter's other threads run.
+
+        Keys and values are buffers of 64-bit unsigned items, as ``array("Q")``, a ``memoryview`` or
+        an array of NumPy, found is one of bytes; all have as many items. ``TypeError`` if they have
+        other items, or the store has codecs; ``ValueError`` if their lengths differ, if the default
+        is out of range, or if a value is a tuple; ``BufferError`` if items do not lie side by side,
+        or what is to be written is read-only. The buffers are as before then.
+
+        >>> from array import array
+        >>> with Store() as store:
+        ...     store.update({7: 70, 8: 80})
+        ...     keys, values = array("Q", [8, 9, 7]), array("Q", [0] * 3)
+        ...     found = bytearray(3)
+        ...     store.get_into(keys, values, found=found), list(values), list(found)
+        (2, [80, 0, 70], [1, 0, 1])
+        """
+        word = word_of(default)
+        with words_in("keys", keys) as numbers, room_in("values", values) as words:
+            with marks_in("found", found) as marks:
+                wanted = items_of(numbers)
+                marked = wanted if found is None else items_of(marks)
+                if not items_of(words) == marked == wanted:
+                    raise ValueError("the buffers have not the same number of items")
+                return self._get_into(numbers, words, word, marks)
 
     def first(self, start: Optional[int] = None, stop: Optional[int] = None) -> Optional[Row]:
         """The row of the least key from ``start`` on and below ``stop`` with a value, if any.

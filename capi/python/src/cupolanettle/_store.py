@@ -29,6 +29,7 @@ from ._snapshot import FIRST_ROOM, GREATEST_ROOM, Snapshot
 from ._statistics import Statistics, statistics_of
 from ._transaction import RANGE_COUNT, Transaction
 from ._values import Row, Value, word_of
+from ._writing import Writer
 
 Itself = TypeVar("Itself", bound="Store")
 Answer = TypeVar("Answer")
@@ -81,7 +82,7 @@ def _nothing(_: Optional[Value]) -> Optional[Value]:
     return None
 
 
-class Store(core.Store, Reader):
+class Store(core.Store, Writer, Reader):
     """An ordered map in memory, for many threads, from ints to ints or tuples of ints.
 
     Keys and words are from 0 to 2**64 - 1. A value is an int, or a tuple of 2 to 8 ints.
@@ -167,6 +168,7 @@ class Store(core.Store, Reader):
             if error.code not in _OPTIONS:
                 raise
             raise ValueError(f"{_OPTIONS[error.code]} is out of range") from None
+        self._choose_batches(epoch)
 
     def __repr__(self) -> str:
         try:
@@ -231,7 +233,7 @@ class Store(core.Store, Reader):
         """Writes each row of a mapping, or of an iterable of pairs, in its order.
 
         Each is a write of its own, so that threads see some of them before others; :meth:`batch`
-        makes all at one moment. What one of them raises ends it, with those before it written.
+        makes all at one moment, and :meth:`put_many` is faster. What one of them raises ends it, with those before it written.
 
         >>> with Store() as store:
         ...     store.update({7: 70, 8: (80, 81)})
