@@ -26,8 +26,8 @@
  *    others may read. It is not null unless its parameter is named or_null.
  * 4. malloc, realloc, posix_memalign and free are of one allocator, which aligns by 16.
  * 5. No call is made in a signal handler, or in a thread that may be cancelled asynchronously. A
- *    forked child may open stores of its own; of what was opened before the fork it makes closes
- *    only, which leave all as it is there.
+ *    forked child may open stores of its own. What was opened before the fork it may only close,
+ *    and such a close does nothing.
  * 6. A call has CLSM_STACK bytes of stack.
  * 7. This header and the library are of one build. */
 #ifndef CLSM_H
@@ -86,7 +86,8 @@ enum clsm_code {
     CLSM_BAD_WAIT = 44      /* options: wait is out of range */
 };
 
-/* The name of a code in a few words, as "not found"; of any other number "unknown code". */
+/* What a code says in a few words, as "not found" or "epoch out of range: 4 to 65536"; of any other
+ * number "unknown code". A text that stays. Texts may change with each version: compare codes. */
 const char *clsm_strerror(int code);
 
 /* CLSM_VERSION of the library. */
@@ -155,9 +156,9 @@ typedef struct {
     uint64_t epoch_writes;            /* writes of the current epoch, by that clock */
     uint64_t level_zero, level_one;   /* entries of the runs, keys and old versions, before the last
                                          merge */
-    uint64_t room_for_keys;           /* so many more keys than level one has entries may have a
-                                         value */
-    uint64_t room_for_versions;       /* so many more entries fit into level one */
+    uint64_t room_for_keys;           /* how many more keys may have a value than level one has
+                                         entries */
+    uint64_t room_for_versions;       /* how many more entries fit into level one */
     uint64_t merges;                  /* that were made */
     uint64_t last_merge, longest_merge;        /* how many nanoseconds they took */
     uint64_t waits, longest_wait;              /* how often writes waited for room, and how long at
@@ -172,8 +173,8 @@ typedef struct {
  * opens. Starts its thread, named clsm-merger, which leaves all signals to others but those of its
  * own faults and of profilers. With null, all options are 0.
  *
- * OK. MEMORY, NO_THREAD, BAD_KEYS, BAD_EPOCH, BAD_PATIENCE, BAD_MERGE, BAD_BUILD, BAD_POINTER:
- * *store is null then. */
+ * OK. MEMORY, NO_THREAD, BAD_KEYS, BAD_EPOCH, BAD_PATIENCE, BAD_MERGE, BAD_VERSIONS, BAD_WAIT,
+ * BAD_BUILD, BAD_POINTER: *store is null then. */
 int clsm_open(const clsm_options *options_or_null, clsm_store **store);
 
 /* Closes a store: ends its thread, which ends a running merge first, and frees its memory. In a
@@ -190,6 +191,21 @@ int clsm_close(clsm_store *store);
  * replaced: call again. VERSIONS_FULL: not all was merged; writes go on while the epoch has room.
  * WORN. BAD_POINTER. */
 int clsm_sweep(clsm_store *store);
+
+/* Opens a store, as clsm_open does, with all rows that the other one has at one moment of the call:
+ * into one for more keys, say, as a store keeps the size that it was opened with. What is written
+ * to the other one later is not among them, so end its writes first if none is to be missed. Times
+ * begin anew.
+ *
+ * It reads a snapshot of the other store, which is open meanwhile, page by page, and writes batch
+ * by batch. Costs a read and a write of each row, and memory for 64 rows beside that of the new
+ * store.
+ *
+ * OK. RUN_FULL: the other store has more keys with a value than the new one is to have. NO_SEAT:
+ * the other store has none for the snapshot. MEMORY, NO_THREAD, BAD_KEYS, BAD_EPOCH, BAD_PATIENCE,
+ * BAD_MERGE, BAD_VERSIONS, BAD_WAIT, BAD_BUILD, BAD_POINTER. *to is null then, and nothing of it is
+ * left; the other store is as before. */
+int clsm_copy(clsm_store *from, const clsm_options *options_or_null, clsm_store **to);
 
 /* What the store tells of itself. Costs a read, and takes no lock that a write waits for.
  *
@@ -292,6 +308,34 @@ int clsm_batch(clsm_caller *caller, const clsm_row *rows, size_t count);
 int clsm_batch_if(clsm_caller *caller, const clsm_row *expected, size_t expected_count,
                   const clsm_range_count *counts, size_t counts_count, const clsm_row *rows,
                   size_t count, size_t *unmet_or_null);
+
+/* Removes all keys from first to last, both included, or all keys of the store, and leaves at
+ * *removed_or_null how many it has removed.
+ *
+ * It is not one moment: it reads page by page, and removes the keys of each by a batch, of up to 64
+ * rows, or a quarter of an epoch if that is less. So others see some of the keys gone, and some not
+ * yet. A key that it has read it removes with the value that the key has by then, which another
+ * write may have given it meanwhile; one that gets its first value where it has read already stays.
+ * It waits as batches do, between which other writes are made. Costs a read and a write of each
+ * row, and takes memory for 64 rows; it is no snapshot, and keeps no versions.
+ *
+ * OK. VERSIONS_FULL, OWN_SNAPSHOT, WORN, MEMORY: the keys that it came to before are removed, and
+ * the same call goes on from there. BAD_POINTER. */
+int clsm_remove_range(clsm_caller *caller, uint64_t first, uint64_t last,
+                      uint64_t *removed_or_null);
+int clsm_clear(clsm_caller *caller, uint64_t *removed_or_null);
+
+/* Removes the least key of the range that has a value, or the greatest one, and leaves its row at
+ * *row. That is one step: at its moment the row was the first, or the last, of the range. So
+ * threads that take rows out of one range get each of them once.
+ *
+ * It is a clsm_first or a clsm_last, and a clsm_batch_if that no other key is before it; both
+ * again, while other writes come between. It waits and takes memory as that does.
+ *
+ * OK; NOT_FOUND: no key of the range has a value. VERSIONS_FULL, OWN_SNAPSHOT, WORN, MEMORY,
+ * BAD_POINTER: nothing was removed. The row is as before if the answer is not OK. */
+int clsm_pop_first(clsm_caller *caller, uint64_t first, uint64_t last, clsm_row *row);
+int clsm_pop_last(clsm_caller *caller, uint64_t first, uint64_t last, clsm_row *row);
 
 /* ---- Changes
  *
@@ -417,7 +461,8 @@ int clsm_snapshot_last(clsm_snapshot *snapshot, uint64_t first, uint64_t last, c
  * OK. NO_SEAT, MEMORY, BAD_POINTER: *scan is null then. */
 int clsm_scan_open(clsm_caller *caller, uint64_t first, uint64_t last, clsm_scan **scan);
 
-/* The next row, by rising key. OK; DONE, and so again. BAD_POINTER: it is next still. */
+/* The next row, by rising key. OK; DONE behind the last one, however often. BAD_POINTER: the row is
+ * still the next one. */
 int clsm_scan_next(clsm_scan *scan, clsm_row *row);
 
 /* Closes a scan, wherever it is. Null is allowed. */
@@ -436,7 +481,8 @@ void clsm_scan_close(clsm_scan *scan);
  * OK. MEMORY, BAD_POINTER: *walk is null then. */
 int clsm_walk_open(clsm_caller *caller, uint64_t first, uint64_t last, clsm_walk **walk);
 
-/* The next row, by rising key. OK; DONE, and so again. BAD_POINTER: it is next still. */
+/* The next row, by rising key. OK; DONE behind the last one, however often. BAD_POINTER: the row is
+ * still the next one. */
 int clsm_walk_next(clsm_walk *walk, clsm_row *row);
 
 /* Ends a walk, wherever it is. Null is allowed. */
@@ -457,7 +503,8 @@ void clsm_walk_close(clsm_walk *walk);
  *
  * It is its caller's: used in one call at a time with it, and closed before it. From its first read
  * to its end it is a snapshot, with a seat. It keeps in memory each key that it read or is to
- * write, and each range that it read, with all its rows. */
+ * write, and each range that it read, with all its rows. Keys may come in any order. A call that is
+ * refused has read nothing. */
 
 /* Opens a transaction. Takes 6 KiB of memory.
  *
@@ -494,10 +541,10 @@ int clsm_transaction_add(clsm_transaction *transaction, uint64_t key, uint64_t b
  * written nothing ends at the moment of its reads, and always with OK. Whatever the answer, it has
  * read and written nothing now, and may be used anew; another read is of a new moment.
  *
- * OK, at clsm_time. CONFLICT: nothing was written, as another one has changed what was read; it has
- * paused, the longer the more conflicts there were in a row, up to a millisecond. RUN_FULL,
- * VERSIONS_FULL, OWN_SNAPSHOT, WORN, MEMORY, BAD_BATCH if it is to write more keys than an epoch
- * has writes, BAD_POINTER: nothing was written. */
+ * OK; it writes at clsm_time. CONFLICT: nothing was written, as another one has changed what was
+ * read; it has paused, the longer the more conflicts there were in a row, up to a millisecond.
+ * RUN_FULL, VERSIONS_FULL, OWN_SNAPSHOT, WORN, MEMORY, BAD_BATCH if it is to write more keys than
+ * an epoch has writes, BAD_POINTER: nothing was written. */
 int clsm_transaction_commit(clsm_transaction *transaction);
 
 /* Closes a transaction; what it noted is not written. Null is allowed. */

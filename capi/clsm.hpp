@@ -10,481 +10,28 @@
 //
 // What each call does is said in clsm.h. Here: no value is std::nullopt. A call that is refused
 // throws clsm::error, or sets a std::error_code, if one is given to it as its last argument, as
-// those of std::filesystem do. Each handle keeps its store open; a store is closed with the last.
+// those of std::filesystem do; what such a call opens is empty then, as a handle is that was moved:
+// it converts to false, and its calls are refused with CLSM_BAD_POINTER. transact, update, copies of
+// rows into vectors and iterators throw only. Each handle keeps its store open; a store is closed
+// with the last.
 //
 // A store may be used by all threads at once, each other handle by one at a time.
 #ifndef CLSM_HPP
 #define CLSM_HPP
 
-#include "clsm.h"
+#include "clsm_reading.hpp"
+#include "clsm_values.hpp"
 
-#include <algorithm>
-#include <array>
 #include <cstddef>
 #include <cstdint>
-#include <initializer_list>
-#include <iterator>
 #include <memory>
 #include <optional>
-#include <stdexcept>
-#include <string>
 #include <system_error>
 #include <type_traits>
 #include <utility>
 #include <vector>
 
 namespace clsm {
-
-// ---- Errors
-
-// The codes of clsm.h as a category of the standard library.
-inline const std::error_category &category() noexcept {
-    class codes final : public std::error_category {
-        const char *name() const noexcept override { return "clsm"; }
-        std::string message(int code) const override { return clsm_strerror(code); }
-        std::error_condition default_error_condition(int code) const noexcept override {
-            switch (code) {
-            case CLSM_MEMORY: return std::errc::not_enough_memory;
-            case CLSM_BUSY: return std::errc::device_or_resource_busy;
-            case CLSM_NO_THREAD: return std::errc::resource_unavailable_try_again;
-            default: return std::error_condition(code, *this);
-            }
-        }
-    };
-    static const codes all;
-    return all;
-}
-
-// What a refused call throws.
-class error : public std::system_error {
-public:
-    explicit error(clsm_code code) : std::system_error(code, category()), code_(code) {}
-    // The code of clsm.h, such as CLSM_RUN_FULL.
-    clsm_code why() const noexcept { return code_; }
-
-private:
-    clsm_code code_;
-};
-
-namespace detail {
-
-// Where a call leaves its code: thrown, or in an error_code.
-struct thrower {
-    void operator()(int code) const {
-        if (code >= CLSM_FULL) throw error(static_cast<clsm_code>(code));
-    }
-};
-
-struct setter {
-    std::error_code &at;
-    void operator()(int code) const noexcept {
-        if (code >= CLSM_FULL) at.assign(code, category());
-        else at.clear();
-    }
-};
-
-struct closer {
-    void operator()(clsm_store *store) const noexcept { clsm_close(store); }
-    void operator()(clsm_caller *caller) const noexcept { clsm_caller_close(caller); }
-    void operator()(clsm_snapshot *snapshot) const noexcept { clsm_snapshot_close(snapshot); }
-    void operator()(clsm_scan *scan) const noexcept { clsm_scan_close(scan); }
-    void operator()(clsm_walk *walk) const noexcept { clsm_walk_close(walk); }
-    void operator()(clsm_transaction *transaction) const noexcept { clsm_transaction_close(transaction); }
-};
-
-template <class Handle> using owned = std::unique_ptr<Handle, closer>;
-
-// A handle, and the store, which is closed behind it.
-template <class Handle> struct handle {
-    std::shared_ptr<clsm_store> store;
-    owned<Handle> own;
-
-    handle(std::shared_ptr<clsm_store> of, Handle *opened) noexcept : store(std::move(of)), own(opened) {}
-    handle(handle &&) noexcept = default;
-    handle &operator=(handle &&other) noexcept {
-        own = std::move(other.own);
-        store = std::move(other.store);
-        return *this;
-    }
-};
-
-} // namespace detail
-
-// ---- Values
-
-// One to eight words of 64 bits.
-class value {
-public:
-    using value_type = std::uint64_t;
-    using const_iterator = const std::uint64_t *;
-    using iterator = const_iterator;
-    static constexpr std::size_t most_words = 8;
-
-    // A value of one word.
-    value(std::uint64_t word) noexcept : raw_{1, {word}} {} // NOLINT: as its word
-
-    // Throws std::length_error unless there are one to eight words.
-    value(std::initializer_list<std::uint64_t> words) : value(words.begin(), words.size()) {}
-    value(const std::uint64_t *words, std::size_t count) : raw_{} {
-        if (count < 1 || count > most_words) throw std::length_error("a value has 1 to 8 words");
-        std::copy_n(words, count, raw_.words);
-        raw_.length = count;
-    }
-    template <std::size_t count>
-    value(const std::array<std::uint64_t, count> &words) noexcept : raw_{} { // NOLINT: as its words
-        static_assert(count >= 1 && count <= most_words, "a value has 1 to 8 words");
-        std::copy_n(words.data(), count, raw_.words);
-        raw_.length = count;
-    }
-
-    std::size_t size() const noexcept { return static_cast<std::size_t>(raw_.length); }
-    const std::uint64_t *data() const noexcept { return raw_.words; }
-    const_iterator begin() const noexcept { return raw_.words; }
-    const_iterator end() const noexcept { return raw_.words + raw_.length; }
-    // The word at this place, which is below size().
-    std::uint64_t operator[](std::size_t at) const noexcept { return raw_.words[at]; }
-    std::uint64_t front() const noexcept { return raw_.words[0]; }
-
-    friend bool operator==(const value &one, const value &other) noexcept {
-        return std::equal(one.begin(), one.end(), other.begin(), other.end());
-    }
-    friend bool operator!=(const value &one, const value &other) noexcept { return !(one == other); }
-
-    // For calls of clsm.h.
-    const clsm_value &raw() const noexcept { return raw_; }
-    // A value that clsm.h answered, or none.
-    static std::optional<value> from(const clsm_value &raw) noexcept {
-        if (raw.length < 1 || raw.length > most_words) return std::nullopt;
-        return value(raw);
-    }
-
-private:
-    explicit value(const clsm_value &raw) noexcept : raw_(raw) {}
-    clsm_value raw_;
-};
-
-// A key and its value.
-struct row {
-    std::uint64_t key;
-    clsm::value value;
-
-    friend bool operator==(const row &one, const row &other) noexcept {
-        return one.key == other.key && one.value == other.value;
-    }
-    friend bool operator!=(const row &one, const row &other) noexcept { return !(one == other); }
-};
-
-// What a change of a key found, and what the key has after it.
-struct change {
-    bool is_written;
-    std::optional<value> before, after;
-};
-
-// The first rows of a range, and the key of the one behind them, if there are more.
-struct page {
-    std::vector<row> rows;
-    std::optional<std::uint64_t> next;
-};
-
-// Writes that are made at one moment, in their order: of several of one key the last one wins.
-class batch {
-public:
-    batch &put(std::uint64_t key, const value &value) {
-        rows_.push_back({key, value.raw()});
-        return *this;
-    }
-    batch &remove(std::uint64_t key) {
-        rows_.push_back({key, {}});
-        return *this;
-    }
-    std::size_t size() const noexcept { return rows_.size(); }
-    bool empty() const noexcept { return rows_.empty(); }
-    void clear() noexcept { rows_.clear(); }
-    // For calls of clsm.h.
-    const std::vector<clsm_row> &raw() const noexcept { return rows_; }
-
-private:
-    std::vector<clsm_row> rows_;
-};
-
-// What a batch expects to find. Values are compared, not when they were written.
-class conditions {
-public:
-    // The key has this value; it has none; it still has what a get answered.
-    conditions &has(std::uint64_t key, const value &value) {
-        rows_.push_back({key, value.raw()});
-        return *this;
-    }
-    conditions &has_none(std::uint64_t key) {
-        rows_.push_back({key, {}});
-        return *this;
-    }
-    conditions &still(std::uint64_t key, const std::optional<value> &found) {
-        return found ? has(key, *found) : has_none(key);
-    }
-    // So many keys from first to last, both included, have a value.
-    conditions &count(std::uint64_t first, std::uint64_t last, std::uint64_t keys) {
-        counts_.push_back({first, last, keys});
-        return *this;
-    }
-    std::size_t size() const noexcept { return rows_.size() + counts_.size(); }
-    bool empty() const noexcept { return size() == 0; }
-    void clear() noexcept {
-        rows_.clear();
-        counts_.clear();
-    }
-    // For calls of clsm.h.
-    const std::vector<clsm_row> &raw_rows() const noexcept { return rows_; }
-    const std::vector<clsm_range_count> &raw_counts() const noexcept { return counts_; }
-
-private:
-    std::vector<clsm_row> rows_;
-    std::vector<clsm_range_count> counts_;
-};
-
-// ---- Rows one after another
-
-namespace detail {
-
-constexpr std::uint64_t greatest_key = UINT64_MAX;
-
-inline row row_of(const clsm_row &raw) { return {raw.key, *value::from(raw.value)}; }
-
-// The row that a call of clsm.h finds, if it finds one.
-template <class Call> std::optional<row> find_row(Call call) {
-    clsm_row raw;
-    const int code = call(&raw);
-    thrower()(code);
-    return code == CLSM_OK ? std::optional<row>(row_of(raw)) : std::nullopt;
-}
-
-// The values that a call of clsm.h reads.
-template <class Call>
-std::vector<std::optional<value>> read_many(const std::vector<std::uint64_t> &keys, Call call) {
-    std::vector<clsm_value> raw(keys.size());
-    thrower()(call(keys.data(), keys.size(), raw.data()));
-    std::vector<std::optional<value>> values(keys.size());
-    std::transform(raw.begin(), raw.end(), values.begin(), value::from);
-    return values;
-}
-
-// An iterator over what a source reads: `bool read(clsm_row &)` is false behind the last row.
-template <class Source> class iterator {
-public:
-    using iterator_category = std::input_iterator_tag;
-    using value_type = row;
-    using difference_type = std::ptrdiff_t;
-    using pointer = const row *;
-    using reference = const row &;
-
-    // The row that `at++` was at.
-    class kept {
-    public:
-        const row &operator*() const noexcept { return row_; }
-
-    private:
-        friend class iterator;
-        explicit kept(row row) noexcept : row_(row) {}
-        row row_;
-    };
-
-    iterator() = default;
-    explicit iterator(Source &source) : source_(&source) { read(); }
-
-    const row &operator*() const noexcept { return *row_; }
-    const row *operator->() const noexcept { return &*row_; }
-    iterator &operator++() {
-        read();
-        return *this;
-    }
-    kept operator++(int) {
-        kept before(*row_);
-        read();
-        return before;
-    }
-
-    // All that have come to the end are equal.
-    friend bool operator==(const iterator &one, const iterator &other) noexcept {
-        return one.source_ == other.source_;
-    }
-    friend bool operator!=(const iterator &one, const iterator &other) noexcept { return !(one == other); }
-
-private:
-    void read() {
-        clsm_row raw;
-        if (source_->read(raw)) row_ = row_of(raw);
-        else source_ = nullptr;
-    }
-
-    Source *source_ = nullptr;
-    std::optional<row> row_;
-};
-
-// Reads the page at the handle by a call of clsm.h: from one end of the range to the other.
-template <class Call, class Done>
-page read_page(Call call, std::uint64_t from, std::uint64_t to, std::size_t most, Done done) {
-    constexpr std::size_t at_once = 512;
-    page page;
-    std::vector<clsm_row> rows(std::min(most, at_once));
-    clsm_page_end end = {0, from, true};
-    int code = CLSM_OK;
-    // One call is of one moment, so there is room for all rows in the last.
-    for (;;) {
-        code = call(from, to, rows.data(), rows.size(), &end);
-        if (code != CLSM_OK || !end.more || rows.size() == most) break;
-        rows.resize(most / 4 < rows.size() ? most : 4 * rows.size());
-    }
-    done(code);
-    if (code != CLSM_OK) return page;
-    page.rows.reserve(end.rows);
-    for (std::uint64_t i = 0; i < end.rows; i++) page.rows.push_back(row_of(rows[i]));
-    if (end.more) page.next = end.next;
-    return page;
-}
-
-} // namespace detail
-
-// The rows of a range as they were at one moment: an open snapshot, which keeps old versions. It is
-// read once, from its first row on; a snapshot gives it again. Throws error if memory runs out.
-class scan {
-public:
-    using iterator = detail::iterator<scan>;
-    iterator begin() { return iterator(*this); }
-    iterator end() { return iterator(); }
-
-    // The next row, if there is one.
-    bool read(clsm_row &row) {
-        const int code = clsm_scan_next(handle_.own.get(), &row);
-        detail::thrower()(code);
-        return code == CLSM_OK;
-    }
-
-private:
-    friend class caller;
-    explicit scan(detail::handle<clsm_scan> handle) : handle_(std::move(handle)) {}
-    detail::handle<clsm_scan> handle_;
-};
-
-// The rows of a range, page by page, each page of its own moment: for loops that write as they
-// read. It is no snapshot. Its caller lives longer. Throws error if memory runs out.
-class walk {
-public:
-    using iterator = detail::iterator<walk>;
-    iterator begin() { return iterator(*this); }
-    iterator end() { return iterator(); }
-
-    bool read(clsm_row &row) {
-        const int code = clsm_walk_next(own_.get(), &row);
-        detail::thrower()(code);
-        return code == CLSM_OK;
-    }
-
-private:
-    friend class caller;
-    explicit walk(detail::owned<clsm_walk> own) : own_(std::move(own)) {}
-    detail::owned<clsm_walk> own_;
-};
-
-// ---- Snapshots
-
-// The map as it was when the snapshot was opened.
-class snapshot {
-public:
-    std::optional<value> get(std::uint64_t key) const {
-        clsm_value found;
-        detail::thrower()(clsm_snapshot_get(raw(), key, &found));
-        return value::from(found);
-    }
-    bool contains(std::uint64_t key) const { return get(key).has_value(); }
-    // The values of the keys, each at the place of its key.
-    std::vector<std::optional<value>> get_many(const std::vector<std::uint64_t> &keys) const {
-        return detail::read_many(
-            keys, [this](auto... arguments) { return clsm_snapshot_get_many(raw(), arguments...); });
-    }
-    // The rows of the least and of the greatest key from first to last that have a value.
-    std::optional<row> first(std::uint64_t first = 0, std::uint64_t last = detail::greatest_key) const {
-        return detail::find_row([&](clsm_row *row) { return clsm_snapshot_first(raw(), first, last, row); });
-    }
-    std::optional<row> last(std::uint64_t first = 0, std::uint64_t last = detail::greatest_key) const {
-        return detail::find_row([&](clsm_row *row) { return clsm_snapshot_last(raw(), first, last, row); });
-    }
-    // The keys from first to last, both included, that have a value: visits each of them.
-    std::uint64_t count(std::uint64_t first = 0, std::uint64_t last = detail::greatest_key) const {
-        std::uint64_t keys = 0;
-        detail::thrower()(clsm_snapshot_count(raw(), first, last, &keys));
-        return keys;
-    }
-    clsm::page page(std::uint64_t first, std::uint64_t last, std::size_t most) const {
-        return page_with(first, last, most, detail::thrower());
-    }
-    clsm::page page(std::uint64_t first, std::uint64_t last, std::size_t most, std::error_code &code) const {
-        return page_with(first, last, most, detail::setter{code});
-    }
-    // By falling key: the next page begins at `next` downwards.
-    clsm::page page_down(std::uint64_t last, std::uint64_t first, std::size_t most) const {
-        const auto call = [this](auto... arguments) { return clsm_snapshot_page_down(raw(), arguments...); };
-        return detail::read_page(call, last, first, most, detail::thrower());
-    }
-
-    // The rows from first to last, both included, or by falling key; the snapshot lives longer. Reads
-    // 64 at a time, and throws error if memory runs out.
-    class rows {
-    public:
-        using iterator = detail::iterator<rows>;
-        iterator begin() { return iterator(*this); }
-        iterator end() { return iterator(); }
-
-        bool read(clsm_row &row) {
-            while (at_ == end_.rows) {
-                if (!end_.more) return false;
-                detail::thrower()(page_(snapshot_, end_.next, end_of_range_, read_.data(), read_.size(), &end_));
-                at_ = 0;
-            }
-            row = read_[at_++];
-            return true;
-        }
-
-    private:
-        friend class snapshot;
-        using paging = int(clsm_snapshot *, std::uint64_t, std::uint64_t, clsm_row *, std::size_t, clsm_page_end *);
-        rows(clsm_snapshot *of, paging *page, std::uint64_t from, std::uint64_t to)
-            : snapshot_(of), page_(page), end_of_range_(to), end_{0, from, true} {}
-        clsm_snapshot *snapshot_;
-        paging *page_;
-        std::uint64_t end_of_range_;
-        clsm_page_end end_;
-        std::size_t at_ = 0;
-        std::array<clsm_row, 64> read_;
-    };
-
-    rows range(std::uint64_t first = 0, std::uint64_t last = detail::greatest_key) const & {
-        return {raw(), clsm_snapshot_page, first, last};
-    }
-    rows range_down(std::uint64_t last = detail::greatest_key, std::uint64_t first = 0) const & {
-        return {raw(), clsm_snapshot_page_down, last, first};
-    }
-    // One that is a temporary would be closed before the first row: give it a name.
-    rows range(std::uint64_t first = 0, std::uint64_t last = detail::greatest_key) const && = delete;
-    rows range_down(std::uint64_t last = detail::greatest_key, std::uint64_t first = 0) const && = delete;
-
-    // The time at which it reads.
-    std::uint64_t time() const noexcept { return clsm_snapshot_time(raw()); }
-    // For calls of clsm.h.
-    clsm_snapshot *raw() const noexcept { return handle_.own.get(); }
-
-private:
-    friend class caller;
-    friend class store;
-    explicit snapshot(detail::handle<clsm_snapshot> handle) : handle_(std::move(handle)) {}
-
-    template <class Done>
-    clsm::page page_with(std::uint64_t first, std::uint64_t last, std::size_t most, Done done) const {
-        const auto call = [this](auto... arguments) { return clsm_snapshot_page(raw(), arguments...); };
-        return detail::read_page(call, first, last, most, done);
-    }
-
-    detail::handle<clsm_snapshot> handle_;
-};
 
 // ---- Transactions
 
@@ -531,7 +78,7 @@ private:
         detail::thrower()(clsm_transaction_open(caller, &opened));
         own_.reset(opened);
     }
-    detail::owned<clsm_transaction> own_;
+    detail::owned<clsm_transaction> own_ = nullptr;
 };
 
 // ---- Callers
@@ -549,6 +96,12 @@ public:
     void remove(std::uint64_t key, std::error_code &code) noexcept {
         detail::setter{code}(clsm_remove(raw(), key));
     }
+    // Made once, without waiting: CLSM_OK, or why nothing was written. A code below CLSM_MEMORY: the
+    // same call may succeed.
+    clsm_code try_put(std::uint64_t key, const value &value) noexcept {
+        return static_cast<clsm_code>(clsm_try_put(raw(), key, value.data(), value.size()));
+    }
+    clsm_code try_remove(std::uint64_t key) noexcept { return static_cast<clsm_code>(clsm_try_remove(raw(), key)); }
     void write(const batch &batch) { detail::thrower()(write_raw(batch)); }
     void write(const batch &batch, std::error_code &code) noexcept { detail::setter{code}(write_raw(batch)); }
 
@@ -563,10 +116,31 @@ public:
         return write_if_with(conditions, batch, unmet, detail::setter{code});
     }
 
+    // Removes the keys from first to last, both included, or all keys, and answers how many it has
+    // removed. It is not one moment: it reads pages, and removes each by a batch. One that is refused
+    // has removed those that it came to before, and the same call goes on from there.
+    std::uint64_t remove_range(std::uint64_t first, std::uint64_t last) {
+        return remove_with(first, last, detail::thrower());
+    }
+    std::uint64_t remove_range(std::uint64_t first, std::uint64_t last, std::error_code &code) noexcept {
+        return remove_with(first, last, detail::setter{code});
+    }
+    std::uint64_t clear() { return remove_range(0, detail::greatest_key); }
+    std::uint64_t clear(std::error_code &code) noexcept { return remove_range(0, detail::greatest_key, code); }
+
+    // Removes the row of the least, or the greatest, key from first to last that has a value, and
+    // answers it: at that moment it was the first, or the last.
+    std::optional<row> pop_first(std::uint64_t first = 0, std::uint64_t last = detail::greatest_key) {
+        return detail::find_row([&](clsm_row *row) { return clsm_pop_first(raw(), first, last, row); });
+    }
+    std::optional<row> pop_last(std::uint64_t first = 0, std::uint64_t last = detail::greatest_key) {
+        return detail::find_row([&](clsm_row *row) { return clsm_pop_last(raw(), first, last, row); });
+    }
+
     // Runs the function on a transaction and commits that: again after a conflict, and a pause, so
-    // many times at most, and then throws error with CLSM_CONFLICT. Answers what the function does.
-    // What the function throws ends it, and nothing is written. As it may run several times, it
-    // should do nothing but read and write by its transaction.
+    // many times at most and once at least, and then throws error with CLSM_CONFLICT. Answers what
+    // the function does. What the function throws ends it, and nothing is written. As it may run
+    // several times, it should do nothing but read and write by its transaction.
     template <class Function> auto transact(Function function, unsigned tries = 100) {
         clsm::transaction transaction(raw());
         for (unsigned made = 1;; made++) {
@@ -655,28 +229,31 @@ public:
 
     // At the moment of this call.
     scan range(std::uint64_t first = 0, std::uint64_t last = detail::greatest_key) {
-        clsm_scan *opened = nullptr;
-        detail::thrower()(clsm_scan_open(raw(), first, last, &opened));
-        return scan({handle_.store, opened});
+        return scan_with(first, last, detail::thrower());
+    }
+    scan range(std::uint64_t first, std::uint64_t last, std::error_code &code) {
+        return scan_with(first, last, detail::setter{code});
     }
     // Page by page, each of its own moment. Not of a temporary, which would be closed before it.
     clsm::walk walk(std::uint64_t first = 0, std::uint64_t last = detail::greatest_key) & {
-        clsm_walk *opened = nullptr;
-        detail::thrower()(clsm_walk_open(raw(), first, last, &opened));
-        return clsm::walk(detail::owned<clsm_walk>(opened));
+        return walk_with(first, last, detail::thrower());
     }
-    clsm::snapshot snapshot() {
-        clsm_snapshot *opened = nullptr;
-        detail::thrower()(clsm_snapshot_open(raw(), &opened));
-        return clsm::snapshot({handle_.store, opened});
+    clsm::walk walk(std::uint64_t first, std::uint64_t last, std::error_code &code) & {
+        return walk_with(first, last, detail::setter{code});
     }
+    clsm::snapshot snapshot() { return snapshot_with(detail::thrower()); }
+    clsm::snapshot snapshot(std::error_code &code) { return snapshot_with(detail::setter{code}); }
 
     // ---- times
 
     std::uint64_t time() const noexcept { return clsm_time(raw()); }
     std::uint64_t seen() const noexcept { return clsm_seen(raw()); }
     void follow(std::uint64_t seen) { detail::thrower()(clsm_follow(raw(), seen)); }
+    void follow(std::uint64_t seen, std::error_code &code) noexcept {
+        detail::setter{code}(clsm_follow(raw(), seen));
+    }
     unsigned number() const noexcept { return clsm_number(raw()); }
+    explicit operator bool() const noexcept { return handle_.own != nullptr; }
     // For calls of clsm.h.
     clsm_caller *raw() const noexcept { return handle_.own.get(); }
 
@@ -688,6 +265,24 @@ private:
         return clsm_put(raw(), key, value.data(), value.size());
     }
     int write_raw(const batch &batch) noexcept { return clsm_batch(raw(), batch.raw().data(), batch.size()); }
+
+    template <class Done> std::uint64_t remove_with(std::uint64_t first, std::uint64_t last, Done done) {
+        std::uint64_t removed = 0;
+        done(clsm_remove_range(raw(), first, last, &removed));
+        return removed;
+    }
+    template <class Done> scan scan_with(std::uint64_t first, std::uint64_t last, Done done) {
+        const auto call = [&](clsm_scan **to) { return clsm_scan_open(raw(), first, last, to); };
+        return scan({handle_.store, detail::open<clsm_scan>(call, done)});
+    }
+    template <class Done> clsm::walk walk_with(std::uint64_t first, std::uint64_t last, Done done) {
+        const auto call = [&](clsm_walk **to) { return clsm_walk_open(raw(), first, last, to); };
+        return clsm::walk(detail::owned<clsm_walk>(detail::open<clsm_walk>(call, done)));
+    }
+    template <class Done> clsm::snapshot snapshot_with(Done done) {
+        const auto call = [&](clsm_snapshot **to) { return clsm_snapshot_open(raw(), to); };
+        return clsm::snapshot({handle_.store, detail::open<clsm_snapshot>(call, done)});
+    }
 
     // Whether it was committed; if not, it is run again.
     static bool ends(const transaction &transaction, bool may_run_again) {
@@ -738,33 +333,39 @@ private:
 
 // How to open a store, as clsm.h says; what is 0 is left to the library.
 struct options : clsm_options {
-    options() noexcept : clsm_options{} {}
-    options &with_keys(std::size_t most) noexcept { return keys = most, *this; }
-    options &with_epoch(std::size_t writes) noexcept { return epoch = writes, *this; }
-    options &with_versions(std::size_t most) noexcept { return versions = most, *this; }
-    options &with_wait(std::int64_t milliseconds) noexcept { return wait = milliseconds, *this; }
-    options &with_patience(int looks) noexcept { return patience = looks, *this; }
-    options &with_merge_in_calls() noexcept { return merge = CLSM_MERGE_IN_CALLS, *this; }
+    options() noexcept : clsm_options() {}
+    options &with_keys(std::size_t most) noexcept { return with(keys, most); }
+    options &with_epoch(std::size_t writes) noexcept { return with(epoch, writes); }
+    options &with_versions(std::size_t most) noexcept { return with(versions, most); }
+    options &with_wait(std::int64_t milliseconds) noexcept { return with(wait, milliseconds); }
+    options &with_patience(int looks) noexcept { return with(patience, looks); }
+    options &with_merge_in_calls() noexcept { return with(merge, CLSM_MERGE_IN_CALLS); }
+
+private:
+    template <class Option> options &with(Option &option, Option chosen) noexcept {
+        option = chosen;
+        return *this;
+    }
 };
 
 // An ordered map, for all threads. A copy is the same map.
 class store {
 public:
-    explicit store(const options &options = {}) : store_(opened(options, detail::thrower()), detail::closer()) {}
-    // An open store, or one that is empty, with the code.
+    explicit store(const options &options = {}) : store(opened(options, detail::thrower()), detail::closer()) {}
     store(const options &options, std::error_code &code)
-        : store_(opened(options, detail::setter{code}), detail::closer()) {}
+        : store(opened(options, detail::setter{code}), detail::closer()) {}
 
-    clsm::caller caller() const {
-        clsm_caller *opened = nullptr;
-        detail::thrower()(clsm_caller_open(raw(), &opened));
-        return clsm::caller({store_, opened});
+    // A store of its own with all rows that this one has at one moment of the call: a larger one, say.
+    // Refused with CLSM_RUN_FULL if this one has more keys with a value than that is to have.
+    store copy(const options &options = {}) const { return {copied(options, detail::thrower()), detail::closer()}; }
+    store copy(const options &options, std::error_code &code) const {
+        return {copied(options, detail::setter{code}), detail::closer()};
     }
-    clsm::snapshot snapshot() const {
-        clsm_snapshot *opened = nullptr;
-        detail::thrower()(clsm_store_snapshot(raw(), &opened));
-        return clsm::snapshot({store_, opened});
-    }
+
+    clsm::caller caller() const { return caller_with(detail::thrower()); }
+    clsm::caller caller(std::error_code &code) const { return caller_with(detail::setter{code}); }
+    clsm::snapshot snapshot() const { return snapshot_with(detail::thrower()); }
+    clsm::snapshot snapshot(std::error_code &code) const { return snapshot_with(detail::setter{code}); }
     // As caller::transact, by a caller that it opens for that: a thread with many has one of its own.
     template <class Function> auto transact(Function function, unsigned tries = 100) const {
         clsm::caller own = caller();
@@ -777,14 +378,26 @@ public:
         detail::thrower()(clsm_stats(raw(), &now));
         return now;
     }
+    explicit operator bool() const noexcept { return store_ != nullptr; }
     // For calls of clsm.h.
     clsm_store *raw() const noexcept { return store_.get(); }
 
 private:
+    store(clsm_store *opened, detail::closer closer) : store_(opened, closer) {}
+
     template <class Done> static clsm_store *opened(const clsm_options &options, Done done) {
-        clsm_store *store = nullptr;
-        done(clsm_open(&options, &store));
-        return store;
+        return detail::open<clsm_store>([&](clsm_store **to) { return clsm_open(&options, to); }, done);
+    }
+    template <class Done> clsm_store *copied(const clsm_options &options, Done done) const {
+        return detail::open<clsm_store>([&](clsm_store **to) { return clsm_copy(raw(), &options, to); }, done);
+    }
+    template <class Done> clsm::caller caller_with(Done done) const {
+        const auto call = [this](clsm_caller **to) { return clsm_caller_open(raw(), to); };
+        return clsm::caller({store_, detail::open<clsm_caller>(call, done)});
+    }
+    template <class Done> clsm::snapshot snapshot_with(Done done) const {
+        const auto call = [this](clsm_snapshot **to) { return clsm_store_snapshot(raw(), to); };
+        return clsm::snapshot({store_, detail::open<clsm_snapshot>(call, done)});
     }
 
     std::shared_ptr<clsm_store> store_;

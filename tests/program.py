@@ -109,6 +109,7 @@ class Tests(unittest.TestCase):
         shown = ["--stats", "--progress"]
         for more, parts in [
             (["--batch"], [b"\nput answered ", b"\nbatch answered ", b"\nrefused full 0\n", b"\nmerges "]),
+            (["--many", "--swap"], [b"\nmany answered ", b"\nswap answered ", b"\nrefused unmet "]),
             # Writes find the epoch full again and again.
             (["--wait", "--cells", "4"], [b"\nrefused full 0\n", b"\ncallers 2\n", b"\nmilliseconds "]),
         ]:
@@ -152,6 +153,23 @@ class Tests(unittest.TestCase):
                 self.assertEqual((clocked.faults, clocked.status), (b"", 0))
                 self.assertEqual(clocked.output.count(b" | "), 100)
                 ordered = play(program, ["audit", "--seats", "2", "--order"], clocked.output)
+                self.assertEqual(ordered, Played(b"audit ok\n", b"", 0))
+
+    def test_records_of_several_keys_pass_the_audit_of_lines(self) -> None:
+        """A read of four keys is four lines, and an exchange has a batch behind four gets."""
+        words = ["run", "--threads", "2", "--ops", "200", "--keys", "8", "--many", "--swap", "--records", "--clock"]
+        for program in PROGRAMS:
+            with self.subTest(program=program.name):
+                records = play(program, words)
+                self.assertEqual((records.faults, records.status), (b"", 0))
+                lines = records.output.splitlines()
+                self.assertGreater(len(lines), 400)
+                for place, line in enumerate(lines):
+                    seat, time, call, *_ = line.split(b" ")
+                    if call == b"batch":
+                        before = [it.split(b" ")[:3] for it in lines[place - 2 : place]]
+                        self.assertEqual(before, [[seat, time, b"get"]] * 2)
+                ordered = play(program, ["audit", "--seats", "2", "--order"], records.output)
                 self.assertEqual(ordered, Played(b"audit ok\n", b"", 0))
 
 

@@ -1,9 +1,11 @@
 // The store beside other ones: workloads that people know, one table.
 #include "border.h"
 #include "contest.h"
+#include "mixes.h"
 #include "options.h"
 #include "waits.h"
 
+#include <algorithm>
 #include <cstdlib>
 #include <iostream>
 
@@ -34,6 +36,8 @@ Entrants entrants_of(const Options &options) {
 }
 
 void play_workloads(const Options &options, Csv &csv) {
+    const auto is_played = [&options](const Workload &it) { return is_chosen(options.workloads, it.name); };
+    if (std::none_of(all_workloads().begin(), all_workloads().end(), is_played)) return;
     const Entrants entrants = entrants_of(options);
     const Zipf ranks(options.keys);
     std::vector<std::string> names, titles;
@@ -43,7 +47,7 @@ void play_workloads(const Options &options, Csv &csv) {
     }
     Report report(std::cout, csv, names, titles);
     for (const Workload &workload : all_workloads())
-        if (is_chosen(options.workloads, workload.name)) Contest(workload, options, ranks, entrants).play(report);
+        if (is_played(workload)) Contest(workload, options, ranks, entrants).play(report);
 }
 
 void play_border(const Options &options, Csv &csv) {
@@ -76,8 +80,10 @@ int run(const std::vector<std::string> &arguments) {
     Csv csv(options.csv);
     play_workloads(options, csv);
     play_border(options, csv);
-    // Seconds for each line: for who asks for it alone.
-    if (!options.workloads.empty() && is_chosen(options.workloads, "waits")) measure_waits(options, std::cout);
+    // Seconds for each line: for who asks for them alone.
+    if (options.workloads.empty()) return EXIT_SUCCESS;
+    if (is_chosen(options.workloads, "mixes")) measure_mixes(options, std::cout);
+    if (is_chosen(options.workloads, "waits")) measure_waits(options, std::cout);
     return EXIT_SUCCESS;
 }
 

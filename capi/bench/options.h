@@ -11,6 +11,9 @@ struct Options {
     std::vector<std::string> workloads, stores; // empty: all
     std::vector<std::uint64_t> threads = {1, 2, 4};
     std::uint64_t keys = 1'000'000, operations = 200'000, repeat = 5;
+    // Of mixes: the name of the only line, or none; keys; calls of a thread, or 0: by the line.
+    std::string line;
+    std::uint64_t keys_of_mixes = 32'768, calls = 0;
     std::string csv; // the name of a file, or none
     bool help = false;
 };

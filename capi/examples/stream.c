@@ -92,12 +92,8 @@ static uint64_t least(clsm_caller *caller, int word) {
 /* Removes the windows that are closed for all logs. No worker counts there any more: it would have
  * read an older progress, and come to a conflict. */
 static void expire(clsm_caller *caller) {
-    clsm_walk *walk;
-    clsm_row row;
     const uint64_t closed = first_open(least(caller, 1));
-    must(clsm_walk_open(caller, WINDOWS, WINDOWS + (closed << 16) - 1, &walk));
-    while (must(clsm_walk_next(walk, &row)) == CLSM_OK) must(clsm_remove(caller, row.key));
-    clsm_walk_close(walk);
+    must(clsm_remove_range(caller, WINDOWS, WINDOWS + (closed << 16) - 1, NULL));
 }
 
 /* Counts events of one log after another, and dies in the middle of a transaction. */

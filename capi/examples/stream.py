@@ -71,7 +71,7 @@ def expire(store: cupolanettle.Store) -> None:
     """Removes the windows that are closed for all logs. No worker counts there any more: it would
     have read an older progress, and come to a conflict."""
     closed = min(first_open(latest) for _, latest, _ in progress(store))
-    store.retain(lambda key, count: False, WINDOWS, WINDOWS | closed << 16)
+    store.remove_range(WINDOWS, WINDOWS | closed << 16)
 
 
 def work(store: cupolanettle.Store, own: int) -> None:

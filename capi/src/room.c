@@ -24,6 +24,19 @@ enum {
     NANOSECONDS_OF_SLEEP = 50000
 };
 
+/* A thread that is cancelled while it sleeps here, or on the board below, still has to give back
+ * what it took: it ends at its next cancellation point. */
+static void be_deaf(int *before) { pthread_setcancelstate(PTHREAD_CANCEL_DISABLE, before); }
+
+static void hear_again(int before) { pthread_setcancelstate(before, &before); }
+
+void clsm_sleep(long nanoseconds) {
+    int before;
+    be_deaf(&before);
+    nanosleep(&(struct timespec){.tv_nsec = nanoseconds}, NULL);
+    hear_again(before);
+}
+
 static void pause_once(void) {
 #if defined __x86_64__ || defined __i386__
     __asm__ __volatile__("pause");
@@ -36,9 +49,7 @@ static void pause_for(unsigned pauses) {
     for (unsigned i = 0; i < pauses; i++) pause_once();
 }
 
-static void sleep_once(void) {
-    nanosleep(&(struct timespec){.tv_nsec = NANOSECONDS_OF_SLEEP}, NULL);
-}
+static void sleep_once(void) { clsm_sleep(NANOSECONDS_OF_SLEEP); }
 
 void clsm_be_patient(struct clsm_patience *patience) {
     if (patience->pauses > MOST_PAUSES) {
@@ -81,15 +92,13 @@ static void let_in(clsm_store *store) {
 
 /* ---- Sleeping on the board, for who holds it */
 
-/* A thread that is cancelled meanwhile still has to give back what it took: it ends at its next
- * cancellation point. */
 bool clsm_sleep_on(clsm_store *store, pthread_cond_t *condition, const struct timespec *until) {
     pthread_mutex_t *lock = &store->board.lock;
     int before;
-    pthread_setcancelstate(PTHREAD_CANCEL_DISABLE, &before);
+    be_deaf(&before);
     int failed =
         until ? pthread_cond_timedwait(condition, lock, until) : pthread_cond_wait(condition, lock);
-    pthread_setcancelstate(before, &before);
+    hear_again(before);
     return !failed;
 }
 
@@ -286,9 +295,10 @@ bool clsm_check_reserve(clsm_store *store) {
 static int wait_beside_batches(clsm_store *store, struct clsm_patience *patience) {
     const uint64_t began = clsm_now();
     pthread_mutex_lock(&store->board.lock);
-    if (clsm_check_reserve(store)) wait_for_merge(store, clsm_limit(store), patience);
+    const bool waits = clsm_check_reserve(store);
+    if (waits) wait_for_merge(store, clsm_limit(store), patience);
     pthread_mutex_unlock(&store->board.lock);
-    note_wait(store, began);
+    if (waits) note_wait(store, began);
     return CLSM_OK;
 }
 
@@ -326,8 +336,7 @@ void clsm_keep_pace(clsm_store *store, uint64_t drawn) {
     const uint64_t due = takes / store->cells * drawn, passed = clsm_now() - began;
     if (due < passed + LEAST_NANOSECONDS) return;
     const uint64_t early = due - passed;
-    const long sleep = early < MOST_NANOSECONDS ? (long)early : MOST_NANOSECONDS;
-    nanosleep(&(struct timespec){.tv_nsec = sleep}, NULL);
+    clsm_sleep(early < MOST_NANOSECONDS ? (long)early : MOST_NANOSECONDS);
 }
 
 /* ---- How many keys there may be */

@@ -232,29 +232,9 @@ int clsm_close(clsm_store *store) {
     return CLSM_OK;
 }
 
-/* ---- Closing and setting null in one step */
-
 int clsm_close_at(clsm_store **store) {
     if (!store) return CLSM_BAD_POINTER;
     int refused = clsm_close(*store);
     if (!refused) *store = NULL;
     return refused;
-}
-
-void clsm_caller_close_at(clsm_caller **caller) {
-    if (!caller) return;
-    clsm_caller_close(*caller);
-    *caller = NULL;
-}
-
-void clsm_snapshot_close_at(clsm_snapshot **snapshot) {
-    if (!snapshot) return;
-    clsm_snapshot_close(*snapshot);
-    *snapshot = NULL;
-}
-
-void clsm_scan_close_at(clsm_scan **scan) {
-    if (!scan) return;
-    clsm_scan_close(*scan);
-    *scan = NULL;
 }

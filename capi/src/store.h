@@ -25,7 +25,10 @@
 #endif
 
 /* A scan reads so many rows at first, and then this many times as many at a time, up to a part. */
-enum { CLSM_LINE = 64, CLSM_SCAN_ROWS = 64, CLSM_SCAN_GROWS = 4 };
+#ifndef CLSM_SCAN_ROWS
+#define CLSM_SCAN_ROWS 64
+#endif
+enum { CLSM_LINE = 64, CLSM_SCAN_GROWS = 4 };
 /* So many rows a long read reads, and counts, at a time. */
 #ifndef CLSM_PART_ROWS
 #define CLSM_PART_ROWS 512
@@ -267,6 +270,8 @@ struct clsm_entry {
     size_t count, removals;
 };
 
+/* Sleeps so long, less than a second; a thread that is cancelled meanwhile goes on behind it. */
+void clsm_sleep(long nanoseconds);
 /* Pauses 1, 2, 4 .. 64 times, then lets other threads run. */
 void clsm_be_patient(struct clsm_patience *patience);
 /* Sleeps on a condition of the board, until the time if there is one: whether that is not over. */

@@ -1,92 +1,21 @@
 /* Transactions: what one has read and is to write, until it is written by one batch with
  * conditions. They share nothing: others see of one only what its calls do. */
 #include "store.h"
+#include "tree.h"
 
 #include <stdlib.h>
-
-/* ---- Rows by key, each key once */
-
-/* The rows in the order in which they came, and their places by rising key. */
-struct table {
-    clsm_row *rows;
-    size_t *order;
-    size_t count, room;
-};
 
 enum { FEW_KEYS = 16, PART_ROWS = CLSM_SCAN_ROWS };
 
 struct clsm_transaction {
     clsm_caller *caller;
     clsm_snapshot *snapshot; /* from its first read on, or null */
-    struct table reads, writes;
+    struct clsm_tree reads, writes;
     clsm_range_count *ranges; /* that it read */
     size_t ranges_count, ranges_room;
     unsigned conflicts; /* in a row */
     clsm_row part[PART_ROWS];
 };
-
-static const clsm_row *row_at(const struct table *table, size_t place) {
-    return &table->rows[table->order[place]];
-}
-
-/* The place of the first key that is not below this one. */
-static size_t place_of(const struct table *table, uint64_t key) {
-    size_t low = 0, high = table->count;
-    while (low < high) {
-        const size_t middle = low + (high - low) / 2;
-        if (row_at(table, middle)->key < key) low = middle + 1;
-        else high = middle;
-    }
-    return low;
-}
-
-/* The row of the key, or null. */
-static const clsm_row *find(const struct table *table, uint64_t key) {
-    const size_t place = place_of(table, key);
-    if (place == table->count || row_at(table, place)->key != key) return NULL;
-    return row_at(table, place);
-}
-
-/* An array with twice the room, if there is memory: else it is as before. */
-static bool grow(void **array, size_t room, size_t size) {
-    if (room > SIZE_MAX / 2 / size) return false;
-    void *grown = realloc(*array, 2 * room * size);
-    if (grown) *array = grown;
-    return grown;
-}
-
-static bool has_room(struct table *table) {
-    enum { FIRST_ROOM = 8 };
-    if (table->count < table->room) return true;
-    const size_t room = table->room ? table->room : FIRST_ROOM;
-    void *rows = table->rows, *order = table->order;
-    const bool is_grown = grow(&rows, room, sizeof *table->rows);
-    table->rows = rows;
-    if (!is_grown || !grow(&order, room, sizeof *table->order)) return false;
-    table->order = order;
-    table->room = 2 * room;
-    return true;
-}
-
-/* Writes the value into the row of the key: OK, MEMORY. */
-static int set(struct table *table, uint64_t key, const clsm_value *value) {
-    const size_t place = place_of(table, key);
-    if (place < table->count && row_at(table, place)->key == key) {
-        table->rows[table->order[place]].value = *value;
-        return CLSM_OK;
-    }
-    if (!has_room(table)) return CLSM_MEMORY;
-    size_t *at = &table->order[place];
-    memmove(at + 1, at, (table->count - place) * sizeof *at);
-    *at = table->count;
-    table->rows[table->count++] = (clsm_row){key, *value};
-    return CLSM_OK;
-}
-
-static void free_table(struct table *table) {
-    free(table->rows);
-    free(table->order);
-}
 
 /* ---- Opening and closing */
 
@@ -101,25 +30,47 @@ int clsm_transaction_open(clsm_caller *caller, clsm_transaction **transaction) {
     return CLSM_OK;
 }
 
-/* From its next read on it is of the present. */
-static void forget(clsm_transaction *transaction) {
+/* Its next read is of the present. */
+static void end_reading(clsm_transaction *transaction) {
     clsm_snapshot_close(transaction->snapshot);
     transaction->snapshot = NULL;
-    transaction->reads.count = 0;
-    transaction->writes.count = 0;
+}
+
+static void forget(clsm_transaction *transaction) {
+    end_reading(transaction);
+    clsm_tree_cut(&transaction->reads, 0);
+    clsm_tree_cut(&transaction->writes, 0);
     transaction->ranges_count = 0;
 }
 
 void clsm_transaction_close(clsm_transaction *transaction) {
     if (!transaction) return;
     forget(transaction);
-    free_table(&transaction->reads);
-    free_table(&transaction->writes);
+    clsm_tree_free(&transaction->reads);
+    clsm_tree_free(&transaction->writes);
     free(transaction->ranges);
     free(transaction);
 }
 
 /* ---- Reads by key */
+
+/* What it had read before a call. */
+struct mark {
+    bool is_reading;
+    size_t keys;
+};
+
+static struct mark mark_of(const clsm_transaction *self) {
+    return (struct mark){self->snapshot != NULL, self->reads.count};
+}
+
+/* Ends a call, which has read nothing if it is refused, and hands its code on. */
+static int end_call(clsm_transaction *self, struct mark before, int code) {
+    if (code < CLSM_FULL) return code;
+    clsm_tree_cut(&self->reads, before.keys);
+    if (!before.is_reading) end_reading(self);
+    return code;
+}
 
 /* Opens its snapshot, if it has none: OK, NO_SEAT. */
 static int begin_reading(clsm_transaction *self) {
@@ -128,8 +79,8 @@ static int begin_reading(clsm_transaction *self) {
 
 /* What it has written at the key, or read. */
 static const clsm_row *known(const clsm_transaction *self, uint64_t key) {
-    const clsm_row *own = find(&self->writes, key);
-    return own ? own : find(&self->reads, key);
+    const clsm_row *own = clsm_tree_find(&self->writes, key);
+    return own ? own : clsm_tree_find(&self->reads, key);
 }
 
 /* Reads so many keys that it does not know, and notes them: OK, MEMORY, NO_SEAT. */
@@ -138,7 +89,7 @@ static int read_keys(clsm_transaction *self, const uint64_t *keys, size_t count)
     int code = begin_reading(self);
     if (code == CLSM_OK) code = clsm_snapshot_get_many(self->snapshot, keys, count, values);
     for (size_t i = 0; i < count && code == CLSM_OK; i++)
-        code = set(&self->reads, keys[i], &values[i]);
+        code = clsm_tree_set(&self->reads, keys[i], &values[i]);
     return code;
 }
 
@@ -152,7 +103,8 @@ static int look_up(clsm_transaction *self, uint64_t key, clsm_value *value) {
 int clsm_transaction_get(clsm_transaction *self, uint64_t key, clsm_value *value_or_null) {
     clsm_value value;
     if (!self) return CLSM_BAD_POINTER;
-    const int code = look_up(self, key, &value);
+    const struct mark before = mark_of(self);
+    const int code = end_call(self, before, look_up(self, key, &value));
     if (code != CLSM_OK) return code;
     if (value_or_null) *value_or_null = value;
     return value.length > 0 ? CLSM_OK : CLSM_NOT_FOUND;
@@ -167,14 +119,22 @@ static int read_unknown(clsm_transaction *self, const uint64_t *keys, size_t cou
     return found > 0 ? read_keys(self, unknown, found) : CLSM_OK;
 }
 
+/* The same of any number of keys. */
+static int read_all(clsm_transaction *self, const uint64_t *keys, size_t count) {
+    int code = CLSM_OK;
+    for (size_t read = 0; read < count && code == CLSM_OK; read += FEW_KEYS) {
+        const size_t left = count - read, part = left < FEW_KEYS ? left : FEW_KEYS;
+        code = read_unknown(self, keys + read, part);
+    }
+    return code;
+}
+
 int clsm_transaction_get_many(clsm_transaction *self, const uint64_t *keys, size_t count,
                               clsm_value *values) {
     if (!self || (count > 0 && (!keys || !values))) return CLSM_BAD_POINTER;
-    for (size_t read = 0; read < count; read += FEW_KEYS) {
-        const size_t left = count - read, part = left < FEW_KEYS ? left : FEW_KEYS;
-        const int code = read_unknown(self, keys + read, part);
-        if (code != CLSM_OK) return code;
-    }
+    const struct mark before = mark_of(self);
+    const int code = end_call(self, before, read_all(self, keys, count));
+    if (code != CLSM_OK) return code;
     for (size_t i = 0; i < count; i++) values[i] = known(self, keys[i])->value;
     return CLSM_OK;
 }
@@ -185,51 +145,56 @@ int clsm_transaction_get_many(clsm_transaction *self, const uint64_t *keys, size
 struct place {
     clsm_page_end end; /* of the rows that were read */
     uint64_t at, last;
-    size_t own;
+    struct clsm_tree_place own;
     uint64_t keys; /* rows of the snapshot that were passed */
 };
 
-/* The next row of the snapshot, or null. */
-static const clsm_row *next_there(clsm_transaction *self, struct place *place) {
+/* The next row of the snapshot, or null. A library with CLSM_CHECKED may refuse to read it. */
+static const clsm_row *next_there(clsm_transaction *self, struct place *place, int *code) {
     if (place->at == place->end.rows && place->end.more) {
-        clsm_snapshot_page(self->snapshot, place->end.next, place->last, self->part, PART_ROWS,
-                           &place->end);
+        *code = clsm_snapshot_page(self->snapshot, place->end.next, place->last, self->part,
+                                   PART_ROWS, &place->end);
+        if (*code != CLSM_OK) return NULL;
         place->at = 0;
     }
     return place->at < place->end.rows ? &self->part[place->at] : NULL;
 }
 
 /* The next row of its own, which may remove its key, or null. */
-static const clsm_row *next_own(const clsm_transaction *self, const struct place *place) {
-    if (place->own == self->writes.count) return NULL;
-    const clsm_row *row = row_at(&self->writes, place->own);
-    return row->key <= place->last ? row : NULL;
+static const clsm_row *next_own(const struct place *place) {
+    const clsm_row *row = clsm_tree_next(&place->own);
+    return row && row->key <= place->last ? row : NULL;
 }
 
 /* Passes the next row of both, and answers it: its own one, where both have the key. What it passes
- * of the snapshot it has read. Null at the end, and where memory ran out. */
+ * of the snapshot it has read. Null at the end, and where that is refused. */
 static const clsm_row *pass(clsm_transaction *self, struct place *place, int *code) {
-    const clsm_row *own = next_own(self, place), *there = next_there(self, place);
+    const clsm_row *own = next_own(place), *there = next_there(self, place, code);
     const bool is_own = own && (!there || own->key <= there->key);
     const bool is_there = there && (!own || there->key <= own->key);
-    if (is_there) *code = set(&self->reads, there->key, &there->value);
+    if (is_there) *code = clsm_tree_set(&self->reads, there->key, &there->value);
     if (*code != CLSM_OK) return NULL;
-    place->own += is_own;
+    if (is_own) clsm_tree_pass(&place->own);
     place->at += is_there;
     place->keys += is_there;
     return is_own ? own : there;
 }
 
+/* Has room for one more range, if there is memory. */
+static bool has_room(clsm_transaction *self) {
+    enum { FIRST_ROOM = 8 };
+    if (self->ranges_count < self->ranges_room) return true;
+    const size_t room = self->ranges_room > 0 ? 2 * self->ranges_room : FIRST_ROOM;
+    clsm_range_count *ranges = realloc(self->ranges, room * sizeof *ranges);
+    if (!ranges) return false;
+    self->ranges = ranges;
+    self->ranges_room = room;
+    return true;
+}
+
 /* Notes that it has read a range: OK, MEMORY. */
 static int note_range(clsm_transaction *self, uint64_t first, uint64_t last, uint64_t keys) {
-    enum { FIRST_ROOM = 4 };
-    if (self->ranges_count == self->ranges_room) {
-        const size_t room = self->ranges_room ? self->ranges_room : FIRST_ROOM;
-        void *ranges = self->ranges;
-        if (!grow(&ranges, room, sizeof *self->ranges)) return CLSM_MEMORY;
-        self->ranges = ranges;
-        self->ranges_room = 2 * room;
-    }
+    if (!has_room(self)) return CLSM_MEMORY;
     self->ranges[self->ranges_count++] = (clsm_range_count){first, last, keys};
     return CLSM_OK;
 }
@@ -240,8 +205,9 @@ int clsm_transaction_page(clsm_transaction *self, uint64_t first, uint64_t last,
     struct place place = {.end = {.next = first, .more = first <= last}, .last = last};
     clsm_page_end page = {.rows = 0};
     const clsm_row *row = NULL;
+    const struct mark before = mark_of(self);
     int code = begin_reading(self);
-    place.own = place_of(&self->writes, first);
+    place.own = clsm_tree_from(&self->writes, first);
     while (code == CLSM_OK && (row = pass(self, &place, &code))) {
         if (row->value.length == 0) continue;
         page.more = page.rows == room;
@@ -252,7 +218,7 @@ int clsm_transaction_page(clsm_transaction *self, uint64_t first, uint64_t last,
     if (code == CLSM_OK && first <= last)
         code = note_range(self, first, page.more ? page.next : last, place.keys);
     if (code == CLSM_OK) *end = page;
-    return code;
+    return end_call(self, before, code);
 }
 
 /* ---- Writes, which nobody sees before it commits */
@@ -263,30 +229,32 @@ int clsm_transaction_put(clsm_transaction *self, uint64_t key, const uint64_t *w
     clsm_value value = {.length = count};
     if (count < 1 || count > 8) return CLSM_BAD_VALUE;
     for (size_t i = 0; i < count; i++) value.words[i] = words[i];
-    return set(&self->writes, key, &value);
+    return clsm_tree_set(&self->writes, key, &value);
 }
 
 int clsm_transaction_remove(clsm_transaction *self, uint64_t key) {
     const clsm_value none = {.length = 0};
-    return self ? set(&self->writes, key, &none) : CLSM_BAD_POINTER;
+    return self ? clsm_tree_set(&self->writes, key, &none) : CLSM_BAD_POINTER;
+}
+
+/* Notes the sum of what was read there and this: OK, KEPT, MEMORY. */
+static int note_sum(clsm_transaction *self, uint64_t key, uint64_t by, clsm_changed *changed) {
+    const uint64_t old = changed->before.words[0];
+    changed->after = changed->before;
+    if (changed->before.length > 1 || old > UINT64_MAX - by) return CLSM_KEPT;
+    changed->after = (clsm_value){.length = 1, .words = {old + by}};
+    return clsm_tree_set(&self->writes, key, &changed->after);
 }
 
 int clsm_transaction_add(clsm_transaction *self, uint64_t key, uint64_t by,
                          clsm_changed *changed_or_null) {
     clsm_changed changed;
     if (!self) return CLSM_BAD_POINTER;
+    const struct mark before = mark_of(self);
     int code = look_up(self, key, &changed.before);
-    if (code != CLSM_OK) return code;
-    const uint64_t old = changed.before.words[0];
-    changed.after = (clsm_value){.length = 1, .words = {old + by}};
-    if (changed.before.length > 1 || old > UINT64_MAX - by) {
-        changed.after = changed.before;
-        code = CLSM_KEPT;
-    } else {
-        code = set(&self->writes, key, &changed.after);
-    }
-    if (changed_or_null && code != CLSM_MEMORY) *changed_or_null = changed;
-    return code;
+    if (code == CLSM_OK) code = note_sum(self, key, by, &changed);
+    if (changed_or_null && code < CLSM_FULL) *changed_or_null = changed;
+    return end_call(self, before, code);
 }
 
 /* ---- The end */
@@ -301,7 +269,7 @@ static void pause_behind(unsigned conflicts) {
         return;
     }
     const unsigned over = conflicts - PAUSES, doublings = over < DOUBLINGS ? over : DOUBLINGS;
-    nanosleep(&(struct timespec){.tv_nsec = (long)FIRST_NANOSECONDS << doublings}, NULL);
+    clsm_sleep((long)FIRST_NANOSECONDS << doublings);
 }
 
 int clsm_transaction_commit(clsm_transaction *self) {

@@ -37,10 +37,13 @@ static void close_view(struct clsm_seat *seat) {
     clsm_tell_closed(seat->store, view);
 }
 
-static void close_handle(struct clsm_seat *seat, enum clsm_use use) {
-    if (clsm_begin_close(seat, use)) return;
+/* Closes a snapshot or a scan: OK; what refuses that. */
+static int close_handle(struct clsm_seat *seat, enum clsm_use use) {
+    const int refused = clsm_begin_close(seat, use);
+    if (refused) return refused;
     close_view(seat);
     clsm_seat_give_home(seat);
+    return CLSM_OK;
 }
 
 /* ---- Long reads, in parts
@@ -216,6 +219,12 @@ void clsm_snapshot_close(clsm_snapshot *snapshot) {
     close_handle((struct clsm_seat *)snapshot, CLSM_AS_SNAPSHOT);
 }
 
+void clsm_snapshot_close_at(clsm_snapshot **snapshot) {
+    if (!snapshot) return;
+    const int code = close_handle((struct clsm_seat *)*snapshot, CLSM_AS_SNAPSHOT);
+    if (code != CLSM_IN_USE) *snapshot = NULL;
+}
+
 uint64_t clsm_snapshot_time(const clsm_snapshot *snapshot) {
     return snapshot ? snapshot->seat.time : 0;
 }
@@ -291,6 +300,12 @@ int clsm_scan_open(clsm_caller *caller, uint64_t first, uint64_t last, clsm_scan
 }
 
 void clsm_scan_close(clsm_scan *scan) { close_handle((struct clsm_seat *)scan, CLSM_AS_SCAN); }
+
+void clsm_scan_close_at(clsm_scan **scan) {
+    if (!scan) return;
+    const int code = close_handle((struct clsm_seat *)*scan, CLSM_AS_SCAN);
+    if (code != CLSM_IN_USE) *scan = NULL;
+}
 
 /* Has the next rows of a scan be more, up to a part: each read begins with a search. Where there is
  * no memory for more, they stay as many. */

@@ -145,6 +145,88 @@ static void count_in_threads(const clsm_options *options) {
     OK(clsm_close(store));
 }
 
+/* ---- Rows that are taken out, from either end */
+
+typedef int pop_call(clsm_caller *caller, uint64_t first, uint64_t last, clsm_row *row);
+
+static void pop(clsm_caller *caller) {
+    static const uint64_t keys[] = {0, 3, 5, 8, UINT64_MAX};
+    clsm_row row = {.key = 7};
+    OK(clsm_clear(caller, NULL));
+    ANSWERS(CLSM_NOT_FOUND, clsm_pop_first(caller, 0, UINT64_MAX, &row));
+    ANSWERS(CLSM_NOT_FOUND, clsm_pop_last(caller, 0, UINT64_MAX, &row));
+    CHECK(row.key == 7);
+    for (size_t i = 0; i < sizeof keys / sizeof *keys; i++)
+        OK(clsm_put(caller, keys[i], &keys[i], 1));
+    OK(clsm_pop_first(caller, 1, 7, &row));
+    CHECK(row.key == 3 && is(&row.value, 3) && clsm_get(caller, 3, NULL) == CLSM_NOT_FOUND);
+    OK(clsm_pop_last(caller, 1, 7, &row));
+    CHECK(row.key == 5 && is(&row.value, 5));
+    ANSWERS(CLSM_NOT_FOUND, clsm_pop_first(caller, 1, 7, &row));
+    ANSWERS(CLSM_NOT_FOUND, clsm_pop_last(caller, 8, 7, &row));
+    OK(clsm_pop_last(caller, 0, UINT64_MAX, &row));
+    CHECK(row.key == UINT64_MAX && is(&row.value, UINT64_MAX));
+    OK(clsm_pop_first(caller, 0, UINT64_MAX, &row));
+    CHECK(row.key == 0 && is(&row.value, 0));
+    OK(clsm_pop_last(caller, 8, 8, &row));
+    CHECK(row.key == 8);
+    ANSWERS(CLSM_NOT_FOUND, clsm_pop_first(caller, 0, UINT64_MAX, &row));
+    ANSWERS(CLSM_BAD_POINTER, clsm_pop_first(NULL, 0, 1, &row));
+    ANSWERS(CLSM_BAD_POINTER, clsm_pop_last(caller, 0, 1, NULL));
+}
+
+/* What each thread takes out goes one way, and nothing is taken out twice: its row counts that. */
+struct popper {
+    clsm_store *store;
+    pop_call *pop;
+    uint64_t popped;
+};
+
+static void *pop_all(void *argument) {
+    struct popper *popper = argument;
+    const bool rises = popper->pop == clsm_pop_first;
+    clsm_caller *caller;
+    clsm_row row;
+    uint64_t last = rises ? 0 : UINT64_MAX;
+    OK(clsm_caller_open(popper->store, &caller));
+    for (int code; (code = popper->pop(caller, 1, 1000, &row)) != CLSM_NOT_FOUND;
+         popper->popped++) {
+        CHECK(code == CLSM_OK && (rises ? row.key > last : row.key < last));
+        last = row.key;
+        OK(clsm_add(caller, 10000 + row.key, 1, NULL));
+    }
+    clsm_caller_close(caller);
+    return NULL;
+}
+
+static void pop_in_threads(const clsm_options *options, pop_call *one, pop_call *other) {
+    enum { ROWS = 400 };
+    struct popper poppers[THREADS];
+    pthread_t threads[THREADS];
+    clsm_store *store;
+    clsm_caller *caller;
+    clsm_value value;
+    uint64_t popped = 0;
+    OK(clsm_open(options, &store));
+    OK(clsm_caller_open(store, &caller));
+    for (uint64_t key = 1; key <= ROWS; key++) OK(clsm_put(caller, key, &key, 1));
+    for (int i = 0; i < THREADS; i++) {
+        poppers[i] = (struct popper){store, i % 2 ? one : other, 0};
+        CHECK(pthread_create(&threads[i], NULL, pop_all, &poppers[i]) == 0);
+    }
+    for (int i = 0; i < THREADS; i++) {
+        CHECK(pthread_join(threads[i], NULL) == 0);
+        popped += poppers[i].popped;
+    }
+    CHECK(popped == ROWS);
+    for (uint64_t key = 1; key <= ROWS; key++) {
+        OK(clsm_get(caller, 10000 + key, &value));
+        CHECK(is(&value, 1));
+    }
+    clsm_caller_close(caller);
+    OK(clsm_close(store));
+}
+
 int main(int argc, char **argv) {
     clsm_store *store;
     clsm_caller *caller;
@@ -156,9 +238,14 @@ int main(int argc, char **argv) {
     replace(caller);
     replace_none(caller);
     rise(caller);
+    pop(caller);
     clsm_caller_close(caller);
     OK(clsm_close(store));
     count_in_threads(&(clsm_options){.epoch = 64});
     count_in_threads(&(clsm_options){.epoch = 64, .patience = -1, .merge = CLSM_MERGE_IN_CALLS});
+    pop_in_threads(&(clsm_options){.keys = 1000, .epoch = 64}, clsm_pop_first, clsm_pop_first);
+    pop_in_threads(&(clsm_options){.keys = 1000, .epoch = 64}, clsm_pop_last, clsm_pop_first);
+    pop_in_threads(&(clsm_options){.keys = 1000, .merge = CLSM_MERGE_IN_CALLS}, clsm_pop_last,
+                   clsm_pop_last);
     return passed("changes");
 }

@@ -9,6 +9,7 @@ static clsm_caller *caller;
 /* Called while the caller reads. */
 static void call_again(void *with) {
     clsm_snapshot *snapshot;
+    clsm_row row;
     uint64_t keys;
     int *calls = with;
     ANSWERS(CLSM_IN_USE, clsm_get(caller, 1, NULL));
@@ -18,10 +19,41 @@ static void call_again(void *with) {
     ANSWERS(CLSM_IN_USE, clsm_batch_if(caller, NULL, 0, NULL, 0, NULL, 0, NULL));
     ANSWERS(CLSM_IN_USE, clsm_page_down(caller, 1, 0, NULL, 0, NULL));
     ANSWERS(CLSM_IN_USE, clsm_last(caller, 0, 1, NULL));
+    ANSWERS(CLSM_IN_USE, clsm_remove_range(caller, 0, 1, &keys));
+    ANSWERS(CLSM_IN_USE, clsm_clear(caller, NULL));
+    ANSWERS(CLSM_IN_USE, clsm_pop_first(caller, 0, 1, &row));
+    ANSWERS(CLSM_IN_USE, clsm_pop_last(caller, 0, 1, &row));
     ANSWERS(CLSM_IN_USE, clsm_snapshot_open(caller, &snapshot));
     ANSWERS(CLSM_IN_USE, clsm_follow(caller, 0));
     clsm_caller_close(caller);
+    clsm_caller *same = caller;
+    clsm_caller_close_at(&same);
+    CHECK(same == caller);
     ++*calls;
+}
+
+/* Called while the transaction reads: its snapshot is in that call. */
+static void read_again(void *with) {
+    clsm_transaction *transaction = with;
+    const uint64_t key = 3;
+    clsm_value value;
+    clsm_row rows[2];
+    clsm_page_end end = {.rows = 7};
+    ANSWERS(CLSM_IN_USE, clsm_transaction_get(transaction, key, &value));
+    ANSWERS(CLSM_IN_USE, clsm_transaction_get_many(transaction, &key, 1, &value));
+    ANSWERS(CLSM_IN_USE, clsm_transaction_add(transaction, key, 1, NULL));
+    ANSWERS(CLSM_IN_USE, clsm_transaction_page(transaction, 0, 9, rows, 2, &end));
+    CHECK(end.rows == 7);
+}
+
+static void transact(void) {
+    clsm_transaction *transaction;
+    OK(clsm_transaction_open(caller, &transaction));
+    OK(clsm_transaction_get(transaction, 1, NULL));
+    mock_core_interrupt(MOCK_READ, read_again, transaction);
+    ANSWERS(CLSM_NOT_FOUND, clsm_transaction_get(transaction, 2, NULL));
+    OK(clsm_transaction_commit(transaction));
+    clsm_transaction_close(transaction);
 }
 
 int main(void) {
@@ -37,6 +69,7 @@ int main(void) {
     OK(clsm_get(caller, 1, NULL));
     CHECK(calls == 1);
     OK(clsm_get(caller, 1, NULL));
+    transact();
     OK(clsm_snapshot_open(caller, &snapshot));
     OK(clsm_scan_open(caller, 0, 1, &scan));
     OK(clsm_scan_next(scan, &row));
@@ -52,6 +85,7 @@ int main(void) {
     clsm_caller_close(caller);
     ANSWERS(CLSM_CLOSED, clsm_get(caller, 1, NULL));
     ANSWERS(CLSM_CLOSED, clsm_put(caller, 1, &WORD, 1));
+    ANSWERS(CLSM_CLOSED, clsm_clear(caller, NULL));
     ANSWERS(CLSM_BAD_POINTER, clsm_get(NULL, 1, NULL));
     ANSWERS(CLSM_IN_USE, clsm_close(store));
     clsm_scan_close(scan);

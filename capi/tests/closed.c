@@ -15,6 +15,7 @@ static clsm_scan *scan;
 
 static void get(void) { clsm_get(caller, 1, NULL); }
 static void put(void) { clsm_put(caller, 1, &(uint64_t){1}, 1); }
+static void clear(void) { clsm_clear(caller, NULL); }
 static void close_again(void) { clsm_caller_close(caller); }
 static void get_at(void) { clsm_snapshot_get(snapshot, 1, NULL); }
 static void time_of(void) { CHECK(clsm_snapshot_time(snapshot) != UINT64_MAX); }
@@ -41,11 +42,11 @@ int main(void) {
     OK(clsm_caller_open(store, &caller));
     OK(clsm_snapshot_open(caller, &snapshot));
     OK(clsm_scan_open(caller, 0, 1, &scan));
-    CHECK(!is_named(get) && !is_named(put) && !is_named(get_at) && !is_named(next));
+    CHECK(!is_named(get) && !is_named(put) && !is_named(clear) && !is_named(get_at) && !is_named(next));
     clsm_snapshot_close(snapshot);
     clsm_scan_close(scan);
     clsm_caller_close(caller);
-    CHECK(is_named(get) && is_named(put) && is_named(close_again));
+    CHECK(is_named(get) && is_named(put) && is_named(clear) && is_named(close_again));
     CHECK(is_named(get_at) && is_named(time_of) && is_named(next));
     OK(clsm_close(store));
     return passed("closed");

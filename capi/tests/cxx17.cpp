@@ -5,9 +5,11 @@
 
 #include <cstdio>
 #include <cstdlib>
+#include <map>
 #include <numeric>
 #include <thread>
 #include <type_traits>
+#include <unordered_set>
 #include <vector>
 
 #define CHECK(holds)                                                                               \
@@ -50,6 +52,77 @@ void values() {
     }
     CHECK(lengths == 2 && value(words, 8).size() == 8);
     CHECK(!value::from(clsm_value{}) && value::from(two.raw()) == two);
+
+    // They are ordered as their words, and are keys of maps.
+    CHECK(one < two && two > one && one <= one && one >= one && !(two < two) && value({7}) < value({7, 0}));
+    const std::map<value, int> ordered = {{two, 2}, {one, 1}, {three, 3}};
+    CHECK(ordered.begin()->first == three && ordered.rbegin()->first == two);
+    const std::unordered_set<value> hashed = {one, two, three, 7};
+    CHECK(hashed.size() == 3 && hashed.count(value({70, 71})) == 1 && hashed.count(8) == 0);
+}
+
+// The codes of clsm.h are error codes, and conditions of the standard library tell what they are.
+void codes() {
+    std::error_code code = CLSM_RUN_FULL;
+    CHECK(code == CLSM_RUN_FULL && code != CLSM_NO_SEAT && code.category() == clsm::category());
+    CHECK(code.message() == clsm_strerror(CLSM_RUN_FULL));
+    for (const clsm_code wrong : {CLSM_BAD_KEYS, CLSM_BAD_EPOCH, CLSM_BAD_PATIENCE, CLSM_BAD_VERSIONS, CLSM_BAD_WAIT,
+                                  CLSM_BAD_MERGE, CLSM_BAD_VALUE, CLSM_BAD_BATCH, CLSM_EMPTY_BATCH, CLSM_BAD_POINTER})
+        CHECK(std::error_code(wrong) == std::errc::invalid_argument);
+    for (const clsm_code again : {CLSM_FULL, CLSM_RACED, CLSM_OVERTAKEN, CLSM_PINNED, CLSM_CONFLICT})
+        CHECK(std::error_code(again) == std::errc::resource_unavailable_try_again);
+    CHECK(std::error_code(CLSM_MEMORY) == std::errc::not_enough_memory);
+    CHECK(std::error_code(CLSM_RUN_FULL) != std::errc::invalid_argument);
+    const clsm::store wrong(clsm::options().with_epoch(3), code);
+    CHECK(code == CLSM_BAD_EPOCH && code == std::errc::invalid_argument && !wrong);
+}
+
+// A handle tells whether it is open: it is not where opening it was refused, and once it was moved.
+void openness() {
+    clsm::store store(clsm::options().with_keys(1000));
+    clsm::caller caller = store.caller();
+    clsm::snapshot snapshot = caller.snapshot();
+    clsm::scan scan = caller.range();
+    CHECK(store && caller && snapshot && scan && caller.walk());
+    CHECK(snapshot.number() < CLSM_SEATS && snapshot.number() != caller.number());
+    const clsm::store other = std::move(store);
+    const clsm::caller moved = std::move(caller);
+    const clsm::snapshot view = std::move(snapshot);
+    const clsm::scan rows = std::move(scan);
+    CHECK(!store && !caller && !snapshot && !scan && other && moved && view && rows);
+    std::error_code code;
+    CHECK(!store.caller(code) && code == CLSM_BAD_POINTER && other.caller(code) && !code);
+    CHECK(!caller.walk(0, 9, code) && code == CLSM_BAD_POINTER);
+    CHECK(snapshot.number() == CLSM_SEATS);
+}
+
+// Writes that are made once, and answer why they were not made.
+void tries() {
+    const clsm::store store(clsm::options().with_keys(4).with_epoch(4).with_merge_in_calls());
+    clsm::caller caller = store.caller();
+    for (std::uint64_t key = 0; key < 4; key++) CHECK(caller.try_put(key, {key, 1}) == CLSM_OK);
+    CHECK(caller.try_put(4, 1) == CLSM_FULL && caller.try_remove(0) == CLSM_FULL);
+    CHECK(store.sweep() == CLSM_OK && caller.try_remove(0) == CLSM_OK && !caller.get(0));
+    CHECK(caller.get(3) == value({3, 1}));
+}
+
+// Rows that are taken out, from either end.
+void popping(clsm::caller &caller) {
+    caller.write(clsm::batch().put(3, 30).put(5, 50).put(8, {80, 81}));
+    CHECK(caller.pop_first(4, 7) == clsm::row({5, 50}) && !caller.pop_last(4, 7));
+    CHECK(caller.pop_last() == clsm::row({8, {80, 81}}) && caller.pop_first() == clsm::row({3, 30}));
+    CHECK(!caller.pop_first() && !caller.pop_last());
+}
+
+// The place that a loop was at is a copy of the iterator.
+void postfix(clsm::caller &caller) {
+    caller.write(clsm::batch().put(1, 10).put(2, 20));
+    clsm::scan scan = caller.range(1, 2);
+    clsm::scan::iterator at = scan.begin();
+    const clsm::row first = *at++;
+    CHECK(first.value == value(10) && at->key == 2);
+    const clsm::scan::iterator before = at++;
+    CHECK(before->value == value(20) && at == scan.end() && before != at && caller.clear() == 2);
 }
 
 // A loop over rows that need their snapshot or caller does not compile for one that is a temporary:
@@ -84,7 +157,7 @@ void codecs(clsm::caller &caller) {
     for (const auto &[key, value] : caller.range()) CHECK(clsm_signed_of_key(key) >= last && value == 1);
     clsm_value bytes;
     char back[CLSM_VALUE_BYTES];
-    std::size_t length;
+    std::size_t length = 0;
     CHECK(clsm_value_of_bytes("green", 5, &bytes) && clsm_bytes_of_value(&bytes, back, &length));
     CHECK(std::string(back, length) == "green");
     for (const std::int64_t number : {-2, 3, -1}) caller.remove(clsm_key_of_signed(number));
@@ -308,6 +381,77 @@ void refusals() {
     CHECK(code.value() == CLSM_OWN_SNAPSHOT);
 }
 
+// Ranges that are removed, all of it, and a copy into a larger store.
+void copies() {
+    enum { ROWS = 700 };
+    std::error_code code;
+    const clsm::store small(clsm::options().with_keys(ROWS));
+    clsm::caller caller = small.caller();
+    for (std::uint64_t key = 0; key < ROWS; key++) caller.put(key, {key, 1});
+    const clsm::store large = small.copy(clsm::options().with_keys(2 * ROWS));
+    CHECK(caller.remove_range(100, 199) == 100 && caller.remove_range(100, 199, code) == 0 && !code);
+    CHECK(caller.remove_range(5, 4) == 0 && caller.count() == ROWS - 100 && !caller.get(199) && caller.get(200));
+    clsm::caller other = large.caller();
+    CHECK(other.count() == ROWS && other.get(199) == value({199, 1}));
+    for (std::uint64_t key = ROWS; key < 2 * ROWS; key++) other.put(key, 1);
+    const clsm::store less = large.copy(clsm::options().with_keys(ROWS), code);
+    CHECK(!less.raw() && code.value() == CLSM_RUN_FULL);
+    CHECK(thrown([&] { large.copy(clsm::options().with_epoch(3)); }) == CLSM_BAD_EPOCH);
+    CHECK(large.copy().caller().count() == 2 * ROWS && large.copy({}, code).raw() && !code);
+    CHECK(caller.clear() == ROWS - 100 && caller.clear(code) == 0 && !code && !caller.first());
+    CHECK(other.count() == 2 * ROWS && small.stats().snapshots == 0);
+}
+
+// One that is refused in the middle tells how far it came, if it does not throw.
+void refused_removals() {
+    std::error_code code;
+    const clsm::store store(clsm::options().with_keys(300).with_epoch(16).with_wait(-1));
+    clsm::caller caller = store.caller();
+    for (std::uint64_t key = 0; key < 300; key++) caller.put(key, key);
+    store.sweep();
+    {
+        const clsm::snapshot snapshot = caller.snapshot();
+        for (code.clear(); !code;) caller.put(299, 0, code);
+        const std::uint64_t removed = caller.clear(code);
+        CHECK(code.value() == CLSM_OWN_SNAPSHOT && caller.count() == 300 - removed);
+        CHECK(thrown([&] { caller.clear(); }) == CLSM_OWN_SNAPSHOT);
+    }
+    const std::uint64_t left = caller.count();
+    CHECK(caller.clear() == left);
+}
+
+// Handles that are refused are empty, where the code is set.
+void empty_handles() {
+    std::error_code code;
+    const clsm::store store;
+    std::vector<clsm::snapshot> snapshots;
+    clsm::caller caller = store.caller(code);
+    CHECK(!code);
+    caller.put(1, 10);
+    snapshots.push_back(caller.snapshot(code));
+    CHECK(!code && snapshots[0].get(1) == value(10));
+    CHECK(caller.range(0, 9, code).begin()->key == 1 && !code);
+    auto walk = caller.walk(0, 9, code);
+    CHECK(walk.begin()->key == 1 && !code);
+    while (!code) snapshots.push_back(store.snapshot(code));
+    CHECK(code.value() == CLSM_NO_SEAT && !snapshots.back().raw() && snapshots.size() == CLSM_SEATS);
+    CHECK(!caller.snapshot(code).raw() && code.value() == CLSM_NO_SEAT);
+    code.clear();
+    const clsm::caller none = store.caller(code);
+    CHECK(code.value() == CLSM_NO_SEAT && !none.raw() && thrown([&] { none.get(1); }) == CLSM_BAD_POINTER);
+    code.clear();
+    clsm::scan scan = caller.range(0, 9, code);
+    CHECK(code.value() == CLSM_NO_SEAT && thrown([&] { scan.begin(); }) == CLSM_BAD_POINTER);
+    CHECK(thrown([&] { store.caller(); }) == CLSM_NO_SEAT && thrown([&] { store.snapshot(); }) == CLSM_NO_SEAT);
+    CHECK(thrown([&] { caller.range(); }) == CLSM_NO_SEAT && thrown([&] { caller.snapshot(); }) == CLSM_NO_SEAT);
+    snapshots.pop_back();
+    snapshots.pop_back();
+    caller.follow(caller.seen(), code);
+    CHECK(!code && store.caller(code).raw() && !code);
+    caller.follow(UINT64_MAX, code);
+    CHECK(code.value() == CLSM_BAD_VALUE);
+}
+
 void threads() {
     const clsm::store store(clsm::options().with_merge_in_calls().with_epoch(64));
     std::vector<std::thread> threads;
@@ -327,10 +471,15 @@ static_assert(std::is_nothrow_move_assignable_v<clsm::snapshot> && !std::is_copy
 
 int main() {
     values();
+    codes();
+    openness();
+    tries();
     {
         const clsm::store store;
         clsm::caller caller = store.caller();
         iterators(caller);
+        postfix(caller);
+        popping(caller);
         codecs(caller);
         keys(caller);
         changes(caller);
@@ -342,6 +491,9 @@ int main() {
     }
     lives();
     refusals();
+    copies();
+    refused_removals();
+    empty_handles();
     threads();
     transacting_threads();
     std::puts("ok cxx17");

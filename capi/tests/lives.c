@@ -173,9 +173,13 @@ static clsm_store *left_store;
 static clsm_caller *left_caller;
 static clsm_snapshot *left_snapshot;
 static clsm_scan *left_scan;
+static clsm_walk *left_walk;
+static clsm_transaction *left_transaction;
 
 /* As the destructors of C++ do at the end of a process. */
 static void close_all(void) {
+    clsm_walk_close(left_walk);
+    clsm_transaction_close(left_transaction);
     clsm_scan_close(left_scan);
     clsm_snapshot_close(left_snapshot);
     clsm_caller_close(left_caller);
@@ -185,13 +189,22 @@ static void close_all(void) {
 /* In a child, which may open stores. Sanitizers let it start no thread. */
 static void use_own_store(void) {
     const clsm_options options = {.epoch = 16, .merge = CLSM_MERGE_IN_CALLS};
-    clsm_store *store;
+    clsm_store *store, *copy;
     clsm_caller *caller;
+    clsm_transaction *transaction;
     uint64_t keys;
     OK(clsm_open(&options, &store));
     OK(clsm_caller_open(store, &caller));
     put_keys(store, 1, 100);
     OK(clsm_count(caller, 0, UINT64_MAX, &keys));
+    CHECK(keys == 100);
+    OK(clsm_transaction_open(caller, &transaction));
+    OK(clsm_transaction_add(transaction, 1, 1, NULL));
+    OK(clsm_transaction_commit(transaction));
+    clsm_transaction_close(transaction);
+    OK(clsm_copy(store, &options, &copy));
+    OK(clsm_close(copy));
+    OK(clsm_clear(caller, &keys));
     CHECK(keys == 100);
     clsm_caller_close(caller);
     OK(clsm_close(store));
@@ -206,6 +219,10 @@ static void close_in_child(void) {
     OK(clsm_caller_open(left_store, &left_caller));
     OK(clsm_snapshot_open(left_caller, &left_snapshot));
     OK(clsm_scan_open(left_caller, 1, 100, &left_scan));
+    OK(clsm_walk_open(left_caller, 1, 100, &left_walk));
+    OK(clsm_transaction_open(left_caller, &left_transaction));
+    OK(clsm_transaction_get(left_transaction, 1, NULL));
+    OK(clsm_transaction_put(left_transaction, 3, &(uint64_t){3}, 1));
     fflush(NULL);
     pid_t child = fork();
     CHECK(child >= 0);
@@ -218,6 +235,9 @@ static void close_in_child(void) {
     CHECK(WIFEXITED(status) && WEXITSTATUS(status) == CLOSED);
     OK(clsm_snapshot_get(left_snapshot, 1, NULL));
     OK(clsm_scan_next(left_scan, &(clsm_row){0}));
+    OK(clsm_walk_next(left_walk, &(clsm_row){0}));
+    OK(clsm_transaction_get(left_transaction, 2, NULL));
+    OK(clsm_transaction_commit(left_transaction));
     close_all();
 }
 

@@ -151,6 +151,83 @@ static void transact(clsm_caller *caller, uint64_t first) {
     clsm_transaction_close(transaction);
 }
 
+enum { NOTED = 100 }; /* so many keys that a transaction notes, all of which have values */
+
+/* Gives these keys other values, or their own again. */
+static void put_all(clsm_caller *caller, uint64_t more) {
+    for (uint64_t key = 0; key < NOTED; key++) {
+        const uint64_t word = key + more;
+        OK(clsm_put(caller, key, &word, 1));
+    }
+}
+
+/* A call that was refused has read and noted nothing: the transaction is no snapshot yet, and
+ * whatever another one writes is no conflict. */
+static void check_unread(clsm_store *store, clsm_caller *caller, clsm_transaction *transaction) {
+    clsm_statistics now;
+    const uint64_t none = 2 * NOTED;
+    OK(clsm_stats(store, &now));
+    CHECK(now.snapshots == 0);
+    put_all(caller, 1);
+    OK(clsm_transaction_put(transaction, none, &none, 1));
+    OK(clsm_transaction_commit(transaction));
+    put_all(caller, 0);
+}
+
+static int read_one(clsm_transaction *transaction) {
+    return clsm_transaction_get(transaction, 0, NULL);
+}
+
+static int add_to_one(clsm_transaction *transaction) {
+    return clsm_transaction_add(transaction, 0, 1, NULL);
+}
+
+static int read_some(clsm_transaction *transaction) {
+    static clsm_value values[NOTED];
+    uint64_t keys[NOTED];
+    for (uint64_t i = 0; i < NOTED; i++) keys[i] = NOTED - 1 - i;
+    return clsm_transaction_get_many(transaction, keys, NOTED, values);
+}
+
+static int read_range(clsm_transaction *transaction) {
+    static clsm_row rows[NOTED];
+    clsm_page_end end;
+    return clsm_transaction_page(transaction, 0, NOTED - 1, rows, NOTED, &end);
+}
+
+static void read_or_not(clsm_store *store, clsm_caller *caller) {
+    static int (*const calls[])(clsm_transaction *) = {read_one, add_to_one, read_some, read_range};
+    for (size_t i = 0; i < sizeof calls / sizeof *calls; i++) {
+        clsm_transaction *transaction = NULL;
+        AGAIN(CLSM_OK, clsm_transaction_open(caller, &transaction));
+        const int code = calls[i](transaction);
+        if (is_again(code)) check_unread(store, caller, transaction);
+        else OK(code);
+        clsm_transaction_close(transaction);
+    }
+}
+
+/* Notes writes by falling key, each of them or none of it; a page has those that were noted. */
+static void write_or_not(clsm_caller *caller, uint64_t first) {
+    static clsm_row rows[NOTED];
+    clsm_transaction *transaction = NULL;
+    clsm_page_end end;
+    AGAIN(CLSM_OK, clsm_transaction_open(caller, &transaction));
+    for (uint64_t i = 1; i <= NOTED; i++) {
+        const int code = clsm_transaction_put(transaction, first + NOTED - i, &i, 1);
+        if (code == CLSM_OK) continue;
+        CHECK(is_again(code));
+        OK(clsm_transaction_page(transaction, first, UINT64_MAX, rows, NOTED, &end));
+        CHECK(end.rows == i - 1);
+        OK(clsm_transaction_put(transaction, first + NOTED - i, &i, 1));
+    }
+    AGAIN(CLSM_OK, clsm_transaction_page(transaction, first, UINT64_MAX, rows, NOTED, &end));
+    CHECK(end.rows == NOTED && !end.more);
+    for (uint64_t i = 0; i < NOTED; i++)
+        CHECK(rows[i].key == first + i && rows[i].value.words[0] == NOTED - i);
+    clsm_transaction_close(transaction);
+}
+
 /* Reads of many keys, and downwards, take none. */
 static void read_many(clsm_caller *caller, uint64_t count) {
     static uint64_t keys[600];
@@ -230,6 +307,53 @@ static void write_batches_if(clsm_caller *caller, uint64_t first) {
     AGAIN(CLSM_OK, clsm_batch_if(caller, rows, ROWS, &all, 1, absent, ROWS, NULL));
 }
 
+/* A range whose removal is refused in the middle is removed by the next call from there on. */
+static void remove_range(clsm_caller *caller, uint64_t first) {
+    enum { ROWS = 12 };
+    uint64_t removed, more = 0;
+    for (uint64_t i = 0; i < ROWS; i++) OK(clsm_put(caller, first + i, &i, 1));
+    int code = clsm_remove_range(caller, first, first + ROWS, &removed);
+    if (is_again(code)) {
+        CHECK(counted(caller, first) == ROWS - removed);
+        code = clsm_remove_range(caller, first, first + ROWS, &more);
+    }
+    ANSWERS(CLSM_OK, code);
+    CHECK(removed + more == ROWS && counted(caller, first) == 0);
+}
+
+/* A row is taken out, or still there. */
+static void pop(clsm_caller *caller, uint64_t first) {
+    clsm_row row = {.key = first + 5};
+    for (uint64_t i = 0; i < 2; i++) OK(clsm_put(caller, first + i, &i, 1));
+    int code = clsm_pop_first(caller, first, first + 1, &row);
+    if (is_again(code)) {
+        CHECK(counted(caller, first) == 2 && row.key == first + 5);
+        code = clsm_pop_first(caller, first, first + 1, &row);
+    }
+    ANSWERS(CLSM_OK, code);
+    CHECK(counted(caller, first) == 1 && row.key == first);
+    AGAIN(CLSM_OK, clsm_pop_last(caller, first, first + 1, &row));
+    CHECK(counted(caller, first) == 0 && row.key == first + 1);
+}
+
+/* A copy that is refused leaves nothing. */
+static void copy(clsm_store *store, uint64_t keys, int merge) {
+    const clsm_options options = {.keys = keys, .epoch = 256, .merge = merge};
+    const long before = atomic_load(&kept);
+    clsm_store *other = store;
+    clsm_caller *caller;
+    int code = clsm_copy(store, &options, &other);
+    if (is_again(code)) {
+        CHECK(!other && atomic_load(&kept) == before);
+        code = clsm_copy(store, &options, &other);
+    }
+    ANSWERS(CLSM_OK, code);
+    OK(clsm_caller_open(other, &caller));
+    CHECK(counted(caller, 0) == keys);
+    clsm_caller_close(caller);
+    OK(clsm_close(other));
+}
+
 static void use_all_calls(int merge) {
     enum { KEYS = 600 };
     clsm_store *store = opened(&(clsm_options){.keys = 640, .epoch = 16, .merge = merge});
@@ -240,6 +364,11 @@ static void use_all_calls(int merge) {
     write_batches(caller, KEYS);
     write_batches_if(caller, KEYS);
     transact(caller, KEYS);
+    read_or_not(store, caller);
+    write_or_not(caller, KEYS);
+    remove_range(caller, KEYS);
+    pop(caller, KEYS);
+    copy(store, KEYS, merge);
     int code = clsm_sweep(store);
     CHECK(code == CLSM_OK || code == CLSM_IDLE);
     read_pages(caller, KEYS);

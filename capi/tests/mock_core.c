@@ -1,49 +1,15 @@
 /* A core for tests, under one mutex: it answers as the proved core does, allocates when that does,
  * and refuses what a test wants to be refused (mock_core.h). */
 #define _POSIX_C_SOURCE 200809L
-#include "mock_core.h"
+#include "mock_store.h"
 
-#include "../core/clsm_core.h"
-
-#include <pthread.h>
 #include <stdlib.h>
 #include <string.h>
 
 const char CLSM_CORE_INTERFACE = 0;
 
-enum { SEATS = 64, NONE = 0 };
-static const uint64_t LAST_LIMIT = (uint64_t)1 << 62;
-
 /* A compiler may leave out an allocation that nothing uses, unless it cannot know the function. */
 static void *(*volatile allocate)(size_t) = malloc;
-
-/* ---- A store */
-
-struct version {
-    uint64_t time;
-    clsm_core_value value;
-    struct version *older; /* of the same key; in the free list the next one */
-};
-
-struct entry {
-    uint64_t key;
-    struct version *newest;
-};
-
-enum phase { CLEAN, FROZEN, RETIRED };
-
-struct store {
-    clsm_core_sizes sizes;
-    struct entry *entries; /* by rising key */
-    struct version *versions, *unused;
-    size_t count;
-    uint64_t clock, epoch;     /* the number of the current epoch */
-    uint64_t snapshots[SEATS]; /* the time of the seat's snapshot plus 1, or NONE */
-    enum phase phase;
-    size_t callers_left;
-    bool merger_left;
-    unsigned handles;
-};
 
 /* The handle of a caller in its words; a store's and a merger's begin with the store. */
 struct seat {
@@ -51,7 +17,7 @@ struct seat {
     uint64_t number;
 };
 
-static pthread_mutex_t lock = PTHREAD_MUTEX_INITIALIZER;
+pthread_mutex_t mock_lock = PTHREAD_MUTEX_INITIALIZER;
 static pthread_cond_t called = PTHREAD_COND_INITIALIZER;
 
 /* ---- What a test made of it */
@@ -68,44 +34,44 @@ static void *interrupted_with[MOCK_CALLS];
 static unsigned bytes_more;
 
 void mock_core_refuse(enum mock_call call, uint32_t code, unsigned times) {
-    pthread_mutex_lock(&lock);
+    pthread_mutex_lock(&mock_lock);
     plans[call].code = code;
     plans[call].refusals = times;
-    pthread_mutex_unlock(&lock);
+    pthread_mutex_unlock(&mock_lock);
 }
 
 void mock_core_run_back(enum mock_call call, uint64_t by, unsigned times) {
-    pthread_mutex_lock(&lock);
+    pthread_mutex_lock(&mock_lock);
     plans[call].by = by;
     plans[call].backward = times;
-    pthread_mutex_unlock(&lock);
+    pthread_mutex_unlock(&mock_lock);
 }
 
 unsigned mock_core_count(enum mock_call call) {
-    pthread_mutex_lock(&lock);
+    pthread_mutex_lock(&mock_lock);
     unsigned made = plans[call].made;
-    pthread_mutex_unlock(&lock);
+    pthread_mutex_unlock(&mock_lock);
     return made;
 }
 
 void mock_core_await(enum mock_call call, unsigned made) {
-    pthread_mutex_lock(&lock);
-    while (plans[call].made < made) pthread_cond_wait(&called, &lock);
-    pthread_mutex_unlock(&lock);
+    pthread_mutex_lock(&mock_lock);
+    while (plans[call].made < made) pthread_cond_wait(&called, &mock_lock);
+    pthread_mutex_unlock(&mock_lock);
 }
 
 void mock_core_interrupt(enum mock_call call, void (*function)(void *), void *with) {
-    pthread_mutex_lock(&lock);
+    pthread_mutex_lock(&mock_lock);
     interruptions[call] = function;
     interrupted_with[call] = with;
-    pthread_mutex_unlock(&lock);
+    pthread_mutex_unlock(&mock_lock);
 }
 
-static void interrupt(enum mock_call call) {
-    pthread_mutex_lock(&lock);
+void mock_interrupt(enum mock_call call) {
+    pthread_mutex_lock(&mock_lock);
     void (*function)(void *) = interruptions[call];
     interruptions[call] = NULL;
-    pthread_mutex_unlock(&lock);
+    pthread_mutex_unlock(&mock_lock);
     if (function) function(interrupted_with[call]);
 }
 
@@ -116,8 +82,7 @@ static void note(struct plan *plan) {
     pthread_cond_broadcast(&called);
 }
 
-/* The code that this call is to answer, or OK. */
-static uint32_t planned(enum mock_call call) {
+uint32_t mock_planned(enum mock_call call) {
     struct plan *plan = &plans[call];
     note(plan);
     if (plan->refusals == 0) return CLSM_CORE_OK;
@@ -142,7 +107,9 @@ static struct seat seat_of(void *handle) {
     return seat;
 }
 
-static struct store *store_of(void *handle) { return seat_of(handle).store; }
+struct store *mock_store_of(void *handle) {
+    return seat_of(handle).store;
+}
 
 static void make(void *handle, struct store *store, uint64_t number) {
     struct seat seat = {store, number};
@@ -157,11 +124,11 @@ static void destroy(struct store *store) {
 }
 
 static void drop(void *handle) {
-    struct store *store = store_of(handle);
-    pthread_mutex_lock(&lock);
+    struct store *store = mock_store_of(handle);
+    pthread_mutex_lock(&mock_lock);
     if (store && --store->handles == 0) destroy(store);
     memset(handle, 0, sizeof(struct seat));
-    pthread_mutex_unlock(&lock);
+    pthread_mutex_unlock(&mock_lock);
 }
 
 static uint32_t refusal_of(const clsm_core_sizes *sizes) {
@@ -206,7 +173,7 @@ void clsm_core_open(const clsm_core_sizes *ask, clsm_core_code *answer, clsm_cor
 void clsm_core_close(clsm_core_store *at) { drop(at); }
 
 void clsm_core_take_caller(clsm_core_store *at, clsm_core_code *answer, clsm_core_caller *caller) {
-    struct store *store = store_of(at);
+    struct store *store = mock_store_of(at);
     bool is_left = store && store->callers_left > 0;
     answer->code = is_left ? CLSM_CORE_OK : CLSM_CORE_NO_HANDLE;
     make(caller, is_left ? store : NULL, is_left ? --store->callers_left : 0);
@@ -215,7 +182,7 @@ void clsm_core_take_caller(clsm_core_store *at, clsm_core_code *answer, clsm_cor
 void clsm_core_drop_caller(clsm_core_caller *at) { drop(at); }
 
 void clsm_core_take_merger(clsm_core_store *at, clsm_core_code *answer, clsm_core_merger *merger) {
-    struct store *store = store_of(at);
+    struct store *store = mock_store_of(at);
     bool is_left = store && store->merger_left;
     answer->code = is_left ? CLSM_CORE_OK : CLSM_CORE_NO_HANDLE;
     if (is_left) store->merger_left = false;
@@ -271,7 +238,7 @@ static void add_version(struct store *store, uint64_t key, const clsm_core_value
 
 static uint32_t write_at(struct store *store, uint64_t key, const clsm_core_value *value,
                          clsm_core_time *answer) {
-    uint32_t code = planned(MOCK_WRITE);
+    uint32_t code = mock_planned(MOCK_WRITE);
     if (code != CLSM_CORE_OK) return code;
     answer->time = store->clock;
     if (store->clock == limit(store)) return CLSM_CORE_FULL;
@@ -281,11 +248,11 @@ static uint32_t write_at(struct store *store, uint64_t key, const clsm_core_valu
 
 static uint32_t write(clsm_core_caller *at, uint64_t key, const clsm_core_value *value,
                       clsm_core_time *answer) {
-    struct store *store = store_of(at);
+    struct store *store = mock_store_of(at);
     if (!store) return CLSM_CORE_NO_HANDLE;
-    pthread_mutex_lock(&lock);
+    pthread_mutex_lock(&mock_lock);
     uint32_t code = write_at(store, key, value, answer);
-    pthread_mutex_unlock(&lock);
+    pthread_mutex_unlock(&mock_lock);
     return code;
 }
 
@@ -326,19 +293,20 @@ static uint32_t write_all(struct store *store, const clsm_core_row *rows, size_t
 static uint32_t write_batch(struct store *store, const clsm_core_row *rows, size_t count,
                             clsm_core_time *answer) {
     uint32_t code = refusal_of_rows(store->sizes.cells, rows, count);
-    if (code == CLSM_CORE_OK) code = planned(MOCK_BATCH);
+    if (code == CLSM_CORE_OK) code = mock_planned(MOCK_BATCH);
     return code == CLSM_CORE_OK ? write_all(store, rows, count, &answer->time) : code;
 }
 
 uint32_t clsm_core_try_batch(clsm_core_caller *at, const clsm_core_row *rows, size_t count,
                              clsm_core_time *answer) {
-    struct store *store = store_of(at);
+    struct store *store = mock_store_of(at);
     if (!store) return CLSM_CORE_NO_HANDLE;
     void *members = allocate(count * sizeof *rows);
     if (!members && count > 0) return CLSM_CORE_MEMORY;
-    pthread_mutex_lock(&lock);
+    mock_interrupt(MOCK_BATCH);
+    pthread_mutex_lock(&mock_lock);
     uint32_t code = write_batch(store, rows, count, answer);
-    pthread_mutex_unlock(&lock);
+    pthread_mutex_unlock(&mock_lock);
     free(members);
     return code;
 }
@@ -398,7 +366,7 @@ static uint32_t write_if(struct store *store, const struct conditions *condition
     const size_t all = conditions->expected_count + conditions->counts_count;
     uint32_t code = refusal_of_conditions(conditions);
     if (code == CLSM_CORE_OK && count > 0) code = refusal_of_rows(store->sizes.cells, rows, count);
-    if (code == CLSM_CORE_OK) code = planned(MOCK_BATCH);
+    if (code == CLSM_CORE_OK) code = mock_planned(MOCK_BATCH);
     if (code != CLSM_CORE_OK) return code;
     answer->index = first_unmet(store, conditions);
     if (answer->index == all && count > 0) return write_all(store, rows, count, &answer->time);
@@ -411,13 +379,14 @@ uint32_t clsm_core_try_batch_if(clsm_core_caller *at, const clsm_core_row *expec
                                 size_t counts_count, const clsm_core_row *rows, size_t count,
                                 clsm_core_unmet *answer) {
     const struct conditions conditions = {expected, expected_count, counts, counts_count};
-    struct store *store = store_of(at);
+    struct store *store = mock_store_of(at);
     if (!store) return CLSM_CORE_NO_HANDLE;
     void *members = allocate((expected_count + count) * sizeof *rows);
     if (!members && expected_count + count > 0) return CLSM_CORE_MEMORY;
-    pthread_mutex_lock(&lock);
+    mock_interrupt(MOCK_BATCH);
+    pthread_mutex_lock(&mock_lock);
     uint32_t code = write_if(store, &conditions, rows, count, answer);
-    pthread_mutex_unlock(&lock);
+    pthread_mutex_unlock(&mock_lock);
     free(members);
     return code;
 }
@@ -441,31 +410,31 @@ static uint32_t change_at(struct store *store, uint64_t key, bool writes,
 
 uint32_t clsm_core_try_add(clsm_core_caller *at, const clsm_core_adding *ask,
                            clsm_core_changed *answer) {
-    struct store *store = store_of(at);
+    struct store *store = mock_store_of(at);
     if (!store) return CLSM_CORE_NO_HANDLE;
-    pthread_mutex_lock(&lock);
+    pthread_mutex_lock(&mock_lock);
     answer->before = value_at(store, ask->key, store->clock);
     const uint64_t old = answer->before.words[0];
     const bool fits =
         answer->before.length == 0 || (answer->before.length == 1 && old <= UINT64_MAX - ask->by);
     const clsm_core_value sum = {1, {(answer->before.length ? old : 0) + ask->by}};
     uint32_t code = change_at(store, ask->key, fits, &sum, answer);
-    pthread_mutex_unlock(&lock);
+    pthread_mutex_unlock(&mock_lock);
     return code;
 }
 
 uint32_t clsm_core_try_replace(clsm_core_caller *at, const clsm_core_replacing *ask,
                                clsm_core_changed *answer) {
-    struct store *store = store_of(at);
+    struct store *store = mock_store_of(at);
     if (!store) return CLSM_CORE_NO_HANDLE;
     if (ask->expected.length > 8 || ask->desired.length > 8) return CLSM_CORE_BAD_VALUE;
-    pthread_mutex_lock(&lock);
+    pthread_mutex_lock(&mock_lock);
     answer->before = value_at(store, ask->key, store->clock);
     clsm_core_value desired = {.length = ask->desired.length};
     memcpy(desired.words, ask->desired.words, desired.length * sizeof desired.words[0]);
     uint32_t code =
         change_at(store, ask->key, is_same(&answer->before, &ask->expected), &desired, answer);
-    pthread_mutex_unlock(&lock);
+    pthread_mutex_unlock(&mock_lock);
     return code;
 }
 
@@ -480,23 +449,23 @@ static uint32_t read_below(const struct store *store, uint64_t key, uint64_t tim
 }
 
 uint32_t clsm_core_get(clsm_core_caller *at, const clsm_core_key *ask, clsm_core_got *answer) {
-    struct store *store = store_of(at);
+    struct store *store = mock_store_of(at);
     if (!store) return CLSM_CORE_NO_HANDLE;
-    interrupt(MOCK_READ);
-    pthread_mutex_lock(&lock);
+    mock_interrupt(MOCK_READ);
+    pthread_mutex_lock(&mock_lock);
     uint32_t code = read_below(store, ask->key, read_time(store, MOCK_READ), answer);
-    pthread_mutex_unlock(&lock);
+    pthread_mutex_unlock(&mock_lock);
     return code;
 }
 
 uint32_t clsm_core_get_at(clsm_core_caller *at, const clsm_core_key *ask, clsm_core_got *answer) {
     struct seat seat = seat_of(at);
     if (!seat.store) return CLSM_CORE_NO_HANDLE;
-    pthread_mutex_lock(&lock);
+    pthread_mutex_lock(&mock_lock);
     uint64_t noted = seat.store->snapshots[seat.number];
     uint32_t code = CLSM_CORE_NO_SNAPSHOT;
     if (noted != NONE) code = read_below(seat.store, ask->key, noted - 1, answer);
-    pthread_mutex_unlock(&lock);
+    pthread_mutex_unlock(&mock_lock);
     return code;
 }
 
@@ -507,13 +476,13 @@ static void read_all(const struct store *store, const clsm_core_key *keys, size_
 
 uint32_t clsm_core_get_many(clsm_core_caller *at, const clsm_core_key *keys, size_t count,
                             clsm_core_value *values, size_t room, clsm_core_time *answer) {
-    struct store *store = store_of(at);
+    struct store *store = mock_store_of(at);
     if (!store) return CLSM_CORE_NO_HANDLE;
-    interrupt(MOCK_READ);
-    pthread_mutex_lock(&lock);
+    mock_interrupt(MOCK_READ);
+    pthread_mutex_lock(&mock_lock);
     answer->time = read_time(store, MOCK_READ);
     read_all(store, keys, count < room ? count : room, values, answer->time);
-    pthread_mutex_unlock(&lock);
+    pthread_mutex_unlock(&mock_lock);
     return CLSM_CORE_OK;
 }
 
@@ -521,37 +490,38 @@ uint32_t clsm_core_get_many_at(clsm_core_caller *at, const clsm_core_key *keys, 
                                clsm_core_value *values, size_t room, clsm_core_time *answer) {
     struct seat seat = seat_of(at);
     if (!seat.store) return CLSM_CORE_NO_HANDLE;
-    pthread_mutex_lock(&lock);
+    mock_interrupt(MOCK_READ);
+    pthread_mutex_lock(&mock_lock);
     const uint64_t noted = seat.store->snapshots[seat.number];
     if (noted != NONE) {
         answer->time = noted - 1;
         read_all(seat.store, keys, count < room ? count : room, values, answer->time);
     }
-    pthread_mutex_unlock(&lock);
+    pthread_mutex_unlock(&mock_lock);
     return noted != NONE ? CLSM_CORE_OK : CLSM_CORE_NO_SNAPSHOT;
 }
 
 uint32_t clsm_core_snapshot(clsm_core_caller *at, clsm_core_time *answer) {
     struct seat seat = seat_of(at);
     if (!seat.store) return CLSM_CORE_NO_HANDLE;
-    pthread_mutex_lock(&lock);
+    pthread_mutex_lock(&mock_lock);
     uint64_t *noted = &seat.store->snapshots[seat.number];
     uint32_t code = *noted == NONE ? CLSM_CORE_OK : CLSM_CORE_OPEN;
     if (*noted == NONE) *noted = read_time(seat.store, MOCK_SNAPSHOT) + 1;
     answer->time = *noted - 1;
-    pthread_mutex_unlock(&lock);
+    pthread_mutex_unlock(&mock_lock);
     return code;
 }
 
 uint32_t clsm_core_close_snapshot(clsm_core_caller *at, clsm_core_time *answer) {
     struct seat seat = seat_of(at);
     if (!seat.store) return CLSM_CORE_NO_HANDLE;
-    pthread_mutex_lock(&lock);
+    pthread_mutex_lock(&mock_lock);
     uint64_t *noted = &seat.store->snapshots[seat.number];
     uint32_t code = *noted == NONE ? CLSM_CORE_NO_SNAPSHOT : CLSM_CORE_OK;
     if (*noted != NONE) answer->time = *noted - 1;
     *noted = NONE;
-    pthread_mutex_unlock(&lock);
+    pthread_mutex_unlock(&mock_lock);
     return code;
 }
 
@@ -566,10 +536,10 @@ uint32_t clsm_core_count(clsm_core_caller *at, const clsm_core_range *ask,
     struct seat seat = seat_of(at);
     struct store *store = seat.store;
     if (!store) return CLSM_CORE_NO_HANDLE;
-    pthread_mutex_lock(&lock);
+    pthread_mutex_lock(&mock_lock);
     answer->time = range_time(seat);
     answer->keys = count_below(store, ask->first, ask->last, answer->time);
-    pthread_mutex_unlock(&lock);
+    pthread_mutex_unlock(&mock_lock);
     return CLSM_CORE_OK;
 }
 
@@ -592,9 +562,9 @@ uint32_t clsm_core_page(clsm_core_caller *at, const clsm_core_range *ask, clsm_c
                         size_t count, clsm_core_paged *answer) {
     struct seat seat = seat_of(at);
     if (!seat.store) return CLSM_CORE_NO_HANDLE;
-    pthread_mutex_lock(&lock);
+    pthread_mutex_lock(&mock_lock);
     fill(seat, ask, rows, count, answer);
-    pthread_mutex_unlock(&lock);
+    pthread_mutex_unlock(&mock_lock);
     return CLSM_CORE_OK;
 }
 
@@ -619,136 +589,8 @@ uint32_t clsm_core_page_down(clsm_core_caller *at, const clsm_core_range *ask, c
                              size_t count, clsm_core_paged *answer) {
     struct seat seat = seat_of(at);
     if (!seat.store) return CLSM_CORE_NO_HANDLE;
-    pthread_mutex_lock(&lock);
+    pthread_mutex_lock(&mock_lock);
     fill_down(seat, ask, rows, count, answer);
-    pthread_mutex_unlock(&lock);
+    pthread_mutex_unlock(&mock_lock);
     return CLSM_CORE_OK;
-}
-
-/* ---- Merging */
-
-static uint32_t freeze(struct store *store, uint64_t used) {
-    const uint64_t cells = store->sizes.cells, drawn = store->clock - store->epoch * cells;
-    if (store->phase != CLEAN) return CLSM_CORE_OK;
-    if (drawn < (used < cells ? used : cells)) return CLSM_CORE_IDLE;
-    uint32_t code = planned(MOCK_FREEZE);
-    if (code != CLSM_CORE_OK) return code;
-    if ((store->epoch + 2) * cells > LAST_LIMIT) return CLSM_CORE_WORN;
-    store->epoch++;
-    store->clock = store->epoch * cells;
-    store->phase = FROZEN;
-    return CLSM_CORE_OK;
-}
-
-/* The time from which on a merge keeps all versions. */
-static uint64_t floor_of(const struct store *store) {
-    uint64_t floor = store->epoch * store->sizes.cells;
-    for (size_t i = 0; i < SEATS; i++) {
-        uint64_t noted = store->snapshots[i];
-        if (noted != NONE && noted - 1 < floor) floor = noted - 1;
-    }
-    return floor;
-}
-
-/* Whether a merge at this floor keeps the version, the newest below the floor or not. */
-static bool is_kept(const struct version *version, uint64_t floor, bool is_newest_below) {
-    return version->time >= floor || (is_newest_below && version->value.length > 0);
-}
-
-/* How many versions of the frozen epoch and before are kept; gives the others up if told to. */
-static size_t keep(struct store *store, uint64_t floor, bool gives_up) {
-    const uint64_t end = store->epoch * store->sizes.cells;
-    size_t kept = 0;
-    for (size_t i = 0; i < store->count; i++) {
-        bool is_newest_below = true;
-        for (struct version **link = &store->entries[i].newest; *link;) {
-            struct version *version = *link;
-            bool stays = version->time >= end || is_kept(version, floor, is_newest_below);
-            if (version->time < floor) is_newest_below = false;
-            if (stays && version->time < end) kept++;
-            if (stays || !gives_up) {
-                link = &version->older;
-                continue;
-            }
-            *link = version->older;
-            version->older = store->unused;
-            store->unused = version;
-        }
-    }
-    return kept;
-}
-
-static void forget_empty(struct store *store) {
-    size_t kept = 0;
-    for (size_t i = 0; i < store->count; i++)
-        if (store->entries[i].newest) store->entries[kept++] = store->entries[i];
-    store->count = kept;
-}
-
-static uint32_t sweep(struct store *store, uint64_t used, clsm_core_time *answer) {
-    uint32_t code = freeze(store, used);
-    if (code != CLSM_CORE_OK) return code;
-    code = planned(MOCK_SWEEP);
-    answer->time = 0;
-    if (code != CLSM_CORE_OK) return code;
-    uint64_t floor = floor_of(store);
-    if (store->phase == FROZEN) {
-        if (keep(store, floor, false) > store->sizes.run) return CLSM_CORE_RUN_FULL;
-        keep(store, floor, true);
-        forget_empty(store);
-    }
-    store->phase = CLEAN;
-    return CLSM_CORE_OK;
-}
-
-/* How many versions were merged: all of them count as entries of the last run, and none stand in
- * the others. */
-static uint64_t count_merged(const struct store *store) {
-    const uint64_t end = (store->epoch - 1) * store->sizes.cells;
-    uint64_t merged = 0;
-    for (size_t i = 0; i < store->count; i++)
-        for (const struct version *at = store->entries[i].newest; at; at = at->older)
-            merged += at->time < end;
-    return merged;
-}
-
-uint32_t clsm_core_count_entries(clsm_core_merger *at, const clsm_core_turn *ask,
-                                 clsm_core_entries *answer) {
-    enum { MERGES_OF_LEVELS = 4 };
-    struct store *store = store_of(at);
-    answer->entries = 0;
-    if (!store) return CLSM_CORE_NO_HANDLE;
-    pthread_mutex_lock(&lock);
-    const bool is_frozen = store->phase == FROZEN;
-    const uint64_t young = is_frozen ? (store->epoch - 1) % MERGES_OF_LEVELS : 0;
-    if (is_frozen && ask->turn == young) answer->entries = count_merged(store);
-    pthread_mutex_unlock(&lock);
-    return is_frozen ? CLSM_CORE_OK : CLSM_CORE_IDLE;
-}
-
-uint32_t clsm_core_phase_of(clsm_core_merger *at, clsm_core_phase *answer) {
-    const struct store *store = store_of(at);
-    if (!store) return CLSM_CORE_NO_HANDLE;
-    *answer = (clsm_core_phase){store->phase == FROZEN, store->phase == RETIRED};
-    return CLSM_CORE_OK;
-}
-
-uint32_t clsm_core_try_freeze(clsm_core_merger *at, const clsm_core_used *ask) {
-    struct store *store = store_of(at);
-    if (!store) return CLSM_CORE_NO_HANDLE;
-    pthread_mutex_lock(&lock);
-    uint32_t code = freeze(store, ask->used);
-    pthread_mutex_unlock(&lock);
-    return code;
-}
-
-uint32_t clsm_core_try_sweep(clsm_core_merger *at, const clsm_core_used *ask,
-                             clsm_core_time *answer) {
-    struct store *store = store_of(at);
-    if (!store) return CLSM_CORE_NO_HANDLE;
-    interrupt(MOCK_SWEEP);
-    pthread_mutex_lock(&lock);
-    uint32_t code = sweep(store, ask->used, answer);
-    pthread_mutex_unlock(&lock);
-    return code;
 }

@@ -19,7 +19,7 @@ unsigned mock_core_count(enum mock_call call);
 /* Sleeps until so many of these calls were made. */
 void mock_core_await(enum mock_call call, unsigned made);
 
-/* The next get, or the next sweep, first calls this, once. */
+/* The next get, batch or sweep first calls this, once. */
 void mock_core_interrupt(enum mock_call call, void (*function)(void *), void *with);
 
 /* Handles take so many bytes more than the header reserves. */

@@ -1,6 +1,6 @@
-/* What only luck would show with the proved core of many keys at one time: batches with conditions
- * that lose a race, that are made again once a condition fell, and reads that run back. The core is
- * mock_core.c. */
+/* What only luck would show with the proved core of many keys: batches with conditions that lose a
+ * race, that are made again once a condition fell, and reads that run back; ranges that are removed
+ * and stores that are copied while others write. The core is mock_core.c. */
 #include "between.h"
 #include "check.h"
 #include "mock_core.h"
@@ -180,6 +180,132 @@ static void run_back(void) {
     closed(store, caller);
 }
 
+/* ---- Ranges that are removed, and stores that are copied, beside other writes */
+
+struct writing {
+    clsm_caller *caller;
+    uint64_t keys[3];
+};
+
+/* Puts three keys, once a page was read and before its rows are written. */
+static void write_between(void *of) {
+    const struct writing *self = of;
+    for (int i = 0; i < 3; i++) OK(clsm_put(self->caller, self->keys[i], &WORD, 1));
+}
+
+/* A key that was read is removed with whatever value it has by then. One that comes where the call
+ * has read already stays, and one that comes behind that is removed. */
+static void remove_beside_writes(void) {
+    enum { KEYS = 100, STEP = 2 };
+    clsm_store *store = opened(64, CLSM_MERGE_IN_CALLS);
+    clsm_caller *caller = caller_of(store), *other = caller_of(store);
+    struct writing writing = {other, {STEP, 1, STEP * KEYS - 1}};
+    uint64_t removed;
+    clsm_row row;
+    for (uint64_t i = 0; i < KEYS; i++) OK(clsm_put(caller, STEP * i, &WORD, 1));
+    mock_core_interrupt(MOCK_BATCH, write_between, &writing);
+    OK(clsm_clear(caller, &removed));
+    CHECK(removed == KEYS + 1);
+    OK(clsm_first(caller, 0, UINT64_MAX, &row));
+    CHECK(row.key == 1);
+    ANSWERS(CLSM_NOT_FOUND, clsm_first(caller, 2, UINT64_MAX, &row));
+    OK(clsm_clear(caller, NULL));
+    clsm_caller_close(other);
+    closed(store, caller);
+}
+
+/* What is written to a store while it is copied is not in the copy. */
+static void copy_beside_writes(void) {
+    enum { KEYS = 100, STEP = 2 };
+    clsm_store *store = opened(64, 0), *copy;
+    clsm_caller *caller = caller_of(store), *other;
+    struct writing writing = {caller, {1, STEP * KEYS - 1, STEP * KEYS}};
+    uint64_t keys;
+    for (uint64_t i = 0; i < KEYS; i++) OK(clsm_put(caller, STEP * i, &WORD, 1));
+    mock_core_interrupt(MOCK_BATCH, write_between, &writing);
+    OK(clsm_copy(store, NULL, &copy));
+    other = caller_of(copy);
+    OK(clsm_count(other, 0, UINT64_MAX, &keys));
+    CHECK(keys == KEYS);
+    for (int i = 0; i < 3; i++) {
+        ANSWERS(CLSM_NOT_FOUND, clsm_get(other, writing.keys[i], NULL));
+        OK(clsm_get(caller, writing.keys[i], NULL));
+    }
+    closed(copy, other);
+    closed(store, caller);
+}
+
+/* What refuses a batch in the middle ends both: the one tells how far it came, the other leaves
+ * nothing. */
+static void refuse_this(void *code) { mock_core_refuse(MOCK_BATCH, *(const uint32_t *)code, 1); }
+
+static void refuse_next(void *code) { mock_core_interrupt(MOCK_BATCH, refuse_this, code); }
+
+static void refuse_second(uint32_t code) {
+    enum { KEYS = 100, OF_FIRST_PAGE = 64 };
+    clsm_store *store = opened(0, 0), *copy;
+    clsm_caller *caller = caller_of(store);
+    clsm_statistics now;
+    uint64_t removed;
+    for (uint64_t key = 0; key < KEYS; key++) OK(clsm_put(caller, key, &WORD, 1));
+    mock_core_interrupt(MOCK_BATCH, refuse_next, &code);
+    copy = store;
+    ANSWERS((int)code, clsm_copy(store, NULL, &copy));
+    OK(clsm_stats(store, &now));
+    CHECK(!copy && now.callers == 1 && now.snapshots == 0);
+    mock_core_interrupt(MOCK_BATCH, refuse_next, &code);
+    ANSWERS((int)code, clsm_clear(caller, &removed));
+    CHECK(removed == OF_FIRST_PAGE && clsm_get(caller, removed - 1, NULL) == CLSM_NOT_FOUND);
+    OK(clsm_get(caller, removed, NULL));
+    OK(clsm_clear(caller, &removed));
+    CHECK(removed == KEYS - OF_FIRST_PAGE);
+    closed(store, caller);
+}
+
+/* ---- Rows that are taken out while others write */
+
+struct coming {
+    clsm_caller *caller;
+    clsm_row row;
+};
+
+static void come(void *of) {
+    const struct coming *coming = of;
+    OK(clsm_batch(coming->caller, &coming->row, 1));
+}
+
+/* Of 5 and 9 this row comes, or goes, between the read and the batch; then this one is taken out.
+ */
+static void pop_beside(int (*pop)(clsm_caller *, uint64_t, uint64_t, clsm_row *), clsm_row row,
+                       clsm_row wanted) {
+    clsm_store *store = opened(64, CLSM_MERGE_IN_CALLS);
+    clsm_caller *caller = caller_of(store), *other = caller_of(store);
+    struct coming coming = {other, row};
+    clsm_row found;
+    OK(clsm_put(caller, 5, &WORD, 1));
+    OK(clsm_put(caller, 9, &WORD, 1));
+    mock_core_interrupt(MOCK_BATCH, come, &coming);
+    OK(pop(caller, 1, 20, &found));
+    CHECK(found.key == wanted.key && found.value.words[0] == wanted.value.words[0]);
+    ANSWERS(CLSM_NOT_FOUND, clsm_get(caller, wanted.key, NULL));
+    clsm_caller_close(other);
+    closed(store, caller);
+}
+
+static void pop_beside_writes(void) {
+    const clsm_value one = {1, {5}}, new = {1, {6}}, none = {.length = 0};
+    pop_beside(clsm_pop_first, (clsm_row){3, new}, (clsm_row){3, new});
+    pop_beside(clsm_pop_first, (clsm_row){5, new}, (clsm_row){5, new});
+    pop_beside(clsm_pop_first, (clsm_row){5, none}, (clsm_row){9, one});
+    pop_beside(clsm_pop_first, (clsm_row){7, new}, (clsm_row){5, one});
+    pop_beside(clsm_pop_first, (clsm_row){0, new}, (clsm_row){5, one});
+    pop_beside(clsm_pop_last, (clsm_row){12, new}, (clsm_row){12, new});
+    pop_beside(clsm_pop_last, (clsm_row){9, new}, (clsm_row){9, new});
+    pop_beside(clsm_pop_last, (clsm_row){9, none}, (clsm_row){5, one});
+    pop_beside(clsm_pop_last, (clsm_row){7, new}, (clsm_row){9, one});
+    pop_beside(clsm_pop_last, (clsm_row){21, new}, (clsm_row){9, one});
+}
+
 int main(void) {
     lose(CLSM_BUSY);
     let_in(0);
@@ -190,5 +316,10 @@ int main(void) {
     wear_out(0);
     wear_out(CLSM_MERGE_IN_CALLS);
     run_back();
+    remove_beside_writes();
+    copy_beside_writes();
+    pop_beside_writes();
+    refuse_second(CLSM_MEMORY);
+    refuse_second(CLSM_WORN);
     return passed("mocked_many");
 }

@@ -37,6 +37,8 @@ static void name_codes(void) {
     const size_t count = sizeof codes / sizeof *codes;
     for (size_t i = 0; i < count; i++) {
         CHECK(strcmp(clsm_strerror(codes[i]), "unknown code") != 0);
+        /* One word would not say what is wrong. */
+        CHECK(codes[i] < CLSM_FULL || strchr(clsm_strerror(codes[i]), ' '));
         for (size_t j = 0; j < i; j++)
             CHECK(strcmp(clsm_strerror(codes[i]), clsm_strerror(codes[j])) != 0);
     }

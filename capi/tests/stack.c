@@ -82,6 +82,16 @@ static void transact(void) {
     OK(clsm_transaction_commit(transaction));
     clsm_transaction_close(transaction);
 }
+static void pop(void) {
+    OK(clsm_pop_first(caller, 0, UINT64_MAX, rows));
+    OK(clsm_pop_last(caller, 0, UINT64_MAX, rows));
+}
+static void remove_range(void) { OK(clsm_remove_range(caller, 0, 90, NULL)); }
+static void copy(void) {
+    clsm_store *other;
+    OK(clsm_copy(store, &OPTIONS, &other));
+    OK(clsm_close(other));
+}
 static void open_scan(void) { OK(clsm_scan_open(caller, 0, UINT64_MAX, &scan)); }
 static void next(void) { OK(clsm_scan_next(scan, rows)); }
 static void close_scan(void) { clsm_scan_close(scan); }
@@ -140,6 +150,9 @@ int main(int count_of_words, char **words) {
                  {"clsm_snapshot_page_down", down_at},
                  {"clsm_snapshot_close", close_snapshot},
                  {"clsm_transaction_commit", transact},
+                 {"clsm_pop_first", pop},
+                 {"clsm_remove_range", remove_range},
+                 {"clsm_copy", copy},
                  {"clsm_scan_open", open_scan},
                  {"clsm_scan_next", next},
                  {"clsm_scan_close", close_scan},

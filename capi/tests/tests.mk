@@ -6,6 +6,8 @@ wrap = $(patsubst %,-Wl$(comma)--wrap=%,$(1))
 BETWEEN = $(call wrap,pthread_cond_wait pthread_cond_timedwait pthread_cond_signal pthread_cond_broadcast pthread_create pthread_join sched_yield sem_wait sem_post)
 HEAP = $(call wrap,malloc calloc realloc posix_memalign free)
 STRICT = $(C) -Werror
+# A core in C, which refuses what a test wants to be refused.
+MOCK = $(T)/mock_core.o $(T)/mock_merging.o
 SHARED_HEADERS = clsm.h tests/check.h tests/between.h tests/mock_core.h tests/record.h
 
 $(T): $(OUT)/settings
@@ -13,11 +15,14 @@ $(T): $(OUT)/settings
 
 # ---- Programs: over the library; `mocked`, `mocked_many`, `checked` and `schedules` over the parts and the mock core.
 
-$(T)/threads $(T)/refusals $(T)/changes $(T)/batch $(T)/many $(T)/transactions $(T)/full $(T)/loops $(T)/lives $(T)/audited: $(T)/%: tests/%.c $(SHARED_HEADERS) $(T)/between.o $(OUT)/libclsm.a
+$(T)/threads $(T)/refusals $(T)/changes $(T)/batch $(T)/many $(T)/transactions $(T)/copying $(T)/edges $(T)/full $(T)/loops $(T)/lives $(T)/audited: $(T)/%: tests/%.c $(SHARED_HEADERS) $(T)/between.o $(OUT)/libclsm.a
 	$(STRICT) -o $@ $< $(T)/between.o $(OUT)/libclsm.a $(BETWEEN)
 
 $(T)/memory: $(T)/%: tests/%.c $(SHARED_HEADERS) $(OUT)/libclsm.a | $(T)
 	$(STRICT) -o $@ $< $(OUT)/libclsm.a $(HEAP)
+
+$(T)/tree: tests/tree.c tests/check.h src/tree.h $(OUT)/tree.o $(OUT)/codes.o | $(T)
+	$(STRICT) -o $@ $< $(OUT)/tree.o $(OUT)/codes.o
 
 $(T)/codecs: tests/codecs.c tests/check.h clsm.h clsm_codec.h $(OUT)/libclsm.a | $(T)
 	$(STRICT) -o $@ $< $(OUT)/libclsm.a
@@ -31,7 +36,7 @@ $(T)/shared: tests/lives.c $(SHARED_HEADERS) $(T)/between.o $(OUT)/$(SHARED)
 $(T)/core: tests/core.c tests/check.h core/clsm_core.h $(OUT)/codes.o $(CORE) | $(T)
 	$(STRICT) -o $@ $< $(OUT)/codes.o $(CORE)
 
-$(T)/example-cxx-%: examples/%.cpp clsm.h clsm.hpp $(OUT)/libclsm.a | $(T)
+$(T)/example-cxx-%: examples/%.cpp clsm.h $(CXX_HEADERS) $(OUT)/libclsm.a | $(T)
 	$(CXX17) -Werror -I. -o $@ $< $(OUT)/libclsm.a
 
 $(T)/example-%: examples/%.c clsm.h clsm_codec.h $(OUT)/libclsm.a | $(T)
@@ -40,14 +45,14 @@ $(T)/example-%: examples/%.c clsm.h clsm_codec.h $(OUT)/libclsm.a | $(T)
 $(T)/cxx: tests/cxx.cpp clsm.h $(OUT)/libclsm.a | $(T)
 	$(CXX11) -Werror -o $@ $< $(OUT)/libclsm.a
 
-$(T)/cxx17: tests/cxx17.cpp clsm.h clsm.hpp clsm_codec.h $(OUT)/libclsm.a | $(T)
+$(T)/cxx17: tests/cxx17.cpp $(INSTALLED) $(OUT)/libclsm.a | $(T)
 	$(CXX17) -Werror -o $@ $< $(OUT)/libclsm.a
 
-$(T)/mocked $(T)/mocked_many: $(T)/%: tests/%.c $(SHARED_HEADERS) $(T)/between.o $(T)/mock_core.o $(OBJECTS)
-	$(STRICT) -o $@ $< $(T)/between.o $(T)/mock_core.o $(OBJECTS) $(BETWEEN)
+$(T)/mocked $(T)/mocked_many: $(T)/%: tests/%.c $(SHARED_HEADERS) $(T)/between.o $(MOCK) $(OBJECTS)
+	$(STRICT) -o $@ $< $(T)/between.o $(MOCK) $(OBJECTS) $(BETWEEN)
 
-$(T)/checked: tests/checked.c $(SHARED_HEADERS) $(T)/mock_core.o $(PARTS:%=src/%.c) $(HEADERS)
-	$(STRICT) -DCLSM_CHECKED -o $@ $< $(T)/mock_core.o $(PARTS:%=src/%.c)
+$(T)/checked: tests/checked.c $(SHARED_HEADERS) $(MOCK) $(PARTS:%=src/%.c) $(HEADERS)
+	$(STRICT) -DCLSM_CHECKED -o $@ $< $(MOCK) $(PARTS:%=src/%.c)
 
 # Its parts are those of src/ with tests/schedules/scheduled.h before them.
 SCHEDULED = $(PARTS:%=$(T)/scheduled/%.o)
@@ -59,14 +64,14 @@ $(SCHEDULED): $(T)/scheduled/%.o: src/%.c $(SCHEDULED_HEADERS) | $(T)
 	@mkdir -p $(@D)
 	$(STRICT) -include tests/schedules/scheduled.h -c -o $@ $<
 
-$(T)/schedules: $(SCHEDULES) $(SCHEDULED_HEADERS) $(T)/mock_core.o $(SCHEDULED)
-	$(STRICT) -o $@ $(SCHEDULES) $(T)/mock_core.o $(SCHEDULED) $(COUNTED)
+$(T)/schedules: $(SCHEDULES) $(SCHEDULED_HEADERS) $(MOCK) $(SCHEDULED)
+	$(STRICT) -o $@ $(SCHEDULES) $(MOCK) $(SCHEDULED) $(COUNTED)
 
-$(T)/between.o $(T)/mock_core.o: $(T)/%.o: tests/%.c $(SHARED_HEADERS) core/clsm_core.h $(OUT)/settings | $(T)
+$(T)/between.o $(MOCK): $(T)/%.o: tests/%.c $(SHARED_HEADERS) tests/mock_store.h core/clsm_core.h $(OUT)/settings | $(T)
 	$(STRICT) -c -o $@ $<
 
-$(OUT)/libmock_core.a: $(T)/mock_core.o
-	rm -f $@ && $(AR) rcs $@ $<
+$(OUT)/libmock_core.a: $(MOCK)
+	rm -f $@ && $(AR) rcs $@ $^
 
 # ---- What must be there, by name
 
@@ -97,7 +102,22 @@ names: $(OUT)/libclsm.a $(OUT)/$(SHARED) $(OUT)/names
 	$(NM) -g --defined-only $(OUT)/libclsm.a | sed -n 's/^[0-9a-f]* [A-Z] //p' | sort | diff $(OUT)/names -
 	$(NM) -D --defined-only $(OUT)/$(SHARED) | sed -n 's/^[0-9a-f]* [^A] //p' | sed 's/@.*//' | sort | diff $(OUT)/names -
 
+# What the headers say at the strictest settings of both compilers, in a program that uses them all.
+STRICTEST_GCC = -Wsign-conversion -Wcast-qual -Wcast-align -Wdouble-promotion -Wformat=2 -Wnull-dereference -Wundef \
+    -Wduplicated-cond -Wduplicated-branches -Wlogical-op
+STRICTEST_GXX = $(STRICTEST_GCC) -Wold-style-cast -Wuseless-cast -Wnon-virtual-dtor -Woverloaded-virtual \
+    -Wsuggest-override -Wextra-semi -Weffc++ -Wzero-as-null-pointer-constant
+# Of all that clang knows, what asks for padding, other standards, or a file beside the header is left out.
+STRICTEST_CLANG = -Weverything -Wno-unknown-warning-option -Wno-padded -Wno-unsafe-buffer-usage \
+    -Wno-declaration-after-statement -Wno-weak-vtables -Wno-c++98-compat -Wno-c++98-compat-pedantic -Wno-c++20-compat
+
 warnings:
+	$(CC) -std=c11 $(WARNINGS) $(STRICTEST_GCC) -Werror -O2 -fsyntax-only -pthread tests/codecs.c
+	$(CLANG) -std=c11 $(STRICTEST_CLANG) -Werror -fsyntax-only -pthread tests/codecs.c
+	for standard in 17 20; do \
+	    $(CXX) -std=c++$$standard $(WARNINGS) $(STRICTEST_GXX) -Werror -O2 -fsyntax-only -pthread tests/cxx17.cpp || exit 1; \
+	    $(CLANGXX) -std=c++$$standard $(STRICTEST_CLANG) -Werror -fsyntax-only -pthread tests/cxx17.cpp || exit 1; \
+	done
 	for cc in $(CC) $(CLANG); do \
 	    for file in core/*.c src/*.c tests/*.c $(SCHEDULES) examples/*.c; do \
 	        $$cc -std=c11 $(WARNINGS) -Werror -O2 -I. -fsyntax-only -pthread $$file || exit 1; \
@@ -109,7 +129,9 @@ warnings:
 	    $$cxx -std=c++11 $(WARNINGS) -Werror -fsyntax-only -x c++-header clsm.h || exit 1; \
 	    $$cxx -std=c++11 $(WARNINGS) -Werror -fsyntax-only -pthread tests/cxx.cpp || exit 1; \
 	    for standard in 17 20; do \
-	        $$cxx -std=c++$$standard $(WARNINGS) -Werror -fsyntax-only -x c++-header clsm.hpp || exit 1; \
+	        for file in $(CXX_HEADERS); do \
+	            $$cxx -std=c++$$standard $(WARNINGS) -Werror -fsyntax-only -x c++-header $$file || exit 1; \
+	        done; \
 	        for file in tests/cxx17.cpp examples/*.cpp; do \
 	            $$cxx -std=c++$$standard $(WARNINGS) -Werror -I. -fsyntax-only -pthread $$file || exit 1; \
 	        done; \
@@ -122,22 +144,23 @@ ROUNDS = $(if $(SANITIZE),2000,20000)
 EXAMPLES = $(patsubst examples/%.c,example-%,$(wildcard examples/*.c)) $(patsubst examples/%.cpp,example-cxx-%,$(wildcard examples/*.cpp))
 # ThreadSanitizer has nothing to find where one thread runs.
 ALONE = $(if $(filter thread,$(SANITIZE)),,schedules)
-PROGRAMS = threads codecs refusals memory lives stack changes batch many transactions full loops cxx cxx17 core mocked mocked_many checked $(ALONE) \
+PROGRAMS = threads codecs refusals memory lives stack changes batch many tree transactions copying edges full loops cxx cxx17 core mocked mocked_many checked $(ALONE) \
     $(EXAMPLES) \
     $(if $(SANITIZE),,shared) $(if $(filter address,$(SANITIZE)),closed) $(if $(AUDIT),audited)
 BUILT = $(PROGRAMS:%=$(T)/%)
-PLAIN = refusals memory lives stack changes batch many transactions full loops cxx cxx17 core mocked mocked_many checked $(if $(filter address,$(SANITIZE)),closed)
+PLAIN = refusals memory lives stack changes batch many tree transactions copying edges full loops cxx cxx17 core mocked mocked_many checked $(if $(filter address,$(SANITIZE)),closed)
 AGAIN = $(MAKE) OUT=$(OUT) CORE=$(CORE)
 # What is not for sanitizers; what the documents show is not in an archive that was packed.
 PLANTING = "tests/planted $(OUT)/planted"
-WHOLE = "$(T)/shared shared" "tests/interface $(T)/mock_core.o $(OBJECTS)" \
+WHOLE = "$(T)/shared shared" "tests/interface $(MOCK) $(OBJECTS)" \
     "tests/examples rust $(OUT)/libclsm.a $(OUT)/rust" \
     "tests/examples python $(OUT)/libclsm.so" \
     $(if $(wildcard ../crates),"tests/documents $(OUT)/libclsm.a $(OUT)/libclsm.so $(OUT)/rust") \
     "tests/installed $(AGAIN)" $(PLANTING) "tests/packed $(AGAIN)"
+AUDITS = $(foreach mix,usual many,"tests/audit $(T)/audited $(AUDIT_CALLS) $(mix) $(AUDIT_SEED) $(AUDIT)")
 RUNS = "$(T)/threads $(ROUNDS)" "$(T)/threads $(ROUNDS) one" "$(T)/codecs tests/codecs.txt" $(PLAIN:%=$(T)/%) "tests/examples c $(T)" "tests/examples cxx $(T)" \
     $(patsubst %,"$(T)/% $(if $(SANITIZE),2)",$(ALONE)) \
-    $(if $(SANITIZE),,$(WHOLE)) $(if $(AUDIT),"tests/audit $(T)/audited $(AUDIT_CALLS) $(AUDIT)")
+    $(if $(SANITIZE),,$(WHOLE)) $(if $(AUDIT),$(AUDITS))
 SMALL = "$(T)/threads 200" "$(T)/codecs tests/codecs.txt" "$(T)/loops 500" $(patsubst %,$(T)/%,$(filter-out stack loops,$(PLAIN)))
 MEMCHECK = valgrind -q --error-exitcode=9 --leak-check=full --errors-for-leak-kinds=definite --show-leak-kinds=definite --fair-sched=yes
 
@@ -154,7 +177,7 @@ check-valgrind: valgrind-tools $(BUILT)
 	WRAP="$(MEMCHECK)" tests/run $(GUARD) $(SMALL)
 
 check-audit: audit-tools $(T)/audited
-	tests/run $(GUARD) "tests/audit $(T)/audited $(AUDIT_CALLS) $(AUDIT)"
+	tests/run $(GUARD) $(AUDITS)
 
 check-redis: $(OUT)/$(SHARED) $(if $(HAS_PYTHON_HEADERS),extension)
 	$(call tools_of,redis-server python3)

@@ -1,5 +1,6 @@
-/* Transactions: what one reads of its own and of others, what ends it; and that those of several
- * threads have the effect that they have one after another, in the order of their times. */
+/* Transactions: what one reads of its own and of others, what ends it; that keys may come in any
+ * order; and that those of several threads have the effect that they have one after another, in the
+ * order of their times. */
 #include "check.h"
 
 #include <pthread.h>
@@ -258,6 +259,41 @@ static void conflict_in_ranges(clsm_caller *caller, clsm_caller *other) {
     clsm_transaction_close(transaction);
 }
 
+/* ---- Many keys, in whichever order they come */
+
+static uint64_t falling(uint64_t i) { return UINT64_MAX - i; }
+static uint64_t scattered(uint64_t i) { return (i + 1) * 0x9e3779b97f4a7c15; }
+
+/* All that it is to write, page by page. */
+static uint64_t count_rows(clsm_transaction *transaction, uint64_t first) {
+    enum { ROOM = 100 };
+    clsm_row rows[ROOM];
+    clsm_page_end end = {.next = first, .more = true};
+    uint64_t count = 0, before = 0;
+    while (end.more) {
+        OK(clsm_transaction_page(transaction, end.next, UINT64_MAX, rows, ROOM, &end));
+        for (uint64_t i = 0; i < end.rows; before = rows[i++].key)
+            CHECK(count + i == 0 || before < rows[i].key);
+        count += end.rows;
+    }
+    return count;
+}
+
+static void note_many(clsm_caller *caller, uint64_t (*key)(uint64_t)) {
+    const uint64_t many = 100 * rounds, above = LAST;
+    clsm_transaction *transaction = begun(caller);
+    for (uint64_t i = 0; i < many; i++) CHECK(read_by(transaction, key(i)) == 0);
+    write_to(transaction, key(0), 1);
+    OK(clsm_transaction_commit(transaction));
+    for (uint64_t i = 0; i < many; i++) write_to(transaction, key(i), i + 1);
+    for (uint64_t i = 0; i < many; i++) CHECK(read_by(transaction, key(i)) == i + 1);
+    CHECK(count_rows(transaction, above) == many);
+    ANSWERS(CLSM_BAD_BATCH, clsm_transaction_commit(transaction));
+    OK(clsm_transaction_remove(transaction, key(0)));
+    OK(clsm_transaction_commit(transaction));
+    clsm_transaction_close(transaction);
+}
+
 /* ---- Threads: random transactions, and the plain map that explains them */
 
 enum { KEYS = 12, MOST_STEPS = 6, PAGE = 4, NO_VALUE = 0 };
@@ -458,6 +494,8 @@ int main(int argc, char **argv) {
     refuse(caller);
     use_seats(store, caller);
     read_ranges(caller);
+    note_many(caller, falling);
+    note_many(caller, scattered);
     conflict_in_ranges(caller, other);
     clsm_caller_close(caller);
     clsm_caller_close(other);

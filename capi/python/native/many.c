@@ -1,4 +1,5 @@
-/* Many keys at one time: reads of several keys, the ends of a range, batches with conditions. */
+/* Many keys: reads of several keys, the ends of a range, batches with conditions, ranges that are
+ * removed. */
 #include "native.h"
 
 /* ---- Several keys */
@@ -172,6 +173,29 @@ PyObject *clsm_write_if(struct store *self, PyObject *const *arguments, Py_ssize
     PyMem_Free(rows);
     if (code < 0) return NULL;
     if (code == CLSM_KEPT) return PyLong_FromSize_t(call.unmet);
+    if (code != CLSM_OK) return clsm_refuse_call(self, code);
+    Py_RETURN_NONE;
+}
+
+/* ---- Ranges that are removed */
+
+/* Made again it goes on, so that it counts on. */
+static int call_remove_range(clsm_caller *caller, struct call *call) {
+    uint64_t removed;
+    const int code = clsm_remove_range(caller, call->key, call->last, &removed);
+    call->keys += removed;
+    return code;
+}
+
+/* Sets the first item of the list, the last argument, to how many keys were removed. */
+PyObject *clsm_remove_keys(struct store *self, PyObject *const *arguments, Py_ssize_t count) {
+    struct call call = {.make = call_remove_range};
+    if (!clsm_has_arguments(count, 3) || !clsm_read_key(arguments[0], &call.key)
+        || !clsm_read_key(arguments[1], &call.last))
+        return NULL;
+    const int code = clsm_make_write(self, &call);
+    PyObject *removed = PyLong_FromUnsignedLongLong(call.keys);
+    if (!removed || PyList_SetItem(arguments[2], 0, removed) || code < 0) return NULL;
     if (code != CLSM_OK) return clsm_refuse_call(self, code);
     Py_RETURN_NONE;
 }

@@ -167,6 +167,7 @@ PyObject *clsm_get_many_at(struct snapshot *self, PyObject *keys);
 PyObject *clsm_end_of(struct store *self, PyObject *const *arguments, Py_ssize_t count);
 PyObject *clsm_end_at(struct snapshot *self, PyObject *const *arguments, Py_ssize_t count);
 PyObject *clsm_write_if(struct store *self, PyObject *const *arguments, Py_ssize_t count);
+PyObject *clsm_remove_keys(struct store *self, PyObject *const *arguments, Py_ssize_t count);
 
 /* ---- buffers.c: methods of stores and of snapshots */
 

@@ -409,8 +409,30 @@ static int open_callers(struct store *self) {
     return code;
 }
 
+/* Opens it, as a copy of another store if one is given: the code. Gives up the interpreter's lock,
+ * and the other one is closed behind that. */
+static int open_once_more(struct store *self, const clsm_options *options, struct store *source) {
+    int code;
+    if (source) clsm_begin_call(source);
+    Py_BEGIN_ALLOW_THREADS
+    if (source) code = clsm_copy(source->handle, options, &self->handle);
+    else code = clsm_open(options, &self->handle);
+    Py_END_ALLOW_THREADS
+    if (source) clsm_end_call(source);
+    return code;
+}
+
+/* The same, where the other one gives up seats if it has none left: the code. */
+static int open_handle(struct store *self, const clsm_options *options, struct store *source) {
+    int code = open_once_more(self, options, source);
+    if (!source || code != CLSM_NO_SEAT || !clsm_is_usable(source)) return code;
+    note_try(source, code);
+    give_up_seats(source);
+    return open_once_more(self, options, source);
+}
+
 static int open_store(PyObject *object, PyObject *arguments, PyObject *names) {
-    struct store *self = (struct store *)object;
+    struct store *self = (struct store *)object, *source = NULL;
     Py_ssize_t keys, epoch, versions;
     long long wait;
     clsm_options options;
@@ -419,8 +441,9 @@ static int open_store(PyObject *object, PyObject *arguments, PyObject *names) {
         PyErr_SetString(PyExc_TypeError, "options have no names here");
         return -1;
     }
-    if (!PyArg_ParseTuple(arguments, "nniinL", &keys, &epoch, &options.patience, &options.merge,
-                          &versions, &wait))
+    if (!PyArg_ParseTuple(arguments, "nniinL|O!", &keys, &epoch, &options.patience, &options.merge,
+                          &versions, &wait, clsm_store_type, &source)
+        || (source && !check_open(source)))
         return -1;
     if (self->was_opened) {
         PyErr_SetString(PyExc_RuntimeError, "it was opened before");
@@ -433,10 +456,7 @@ static int open_store(PyObject *object, PyObject *arguments, PyObject *names) {
     self->wait = wait;
     self->was_opened = true;
     self->forks = clsm_forks_seen();
-    int code;
-    Py_BEGIN_ALLOW_THREADS
-    code = clsm_open(&options, &self->handle);
-    Py_END_ALLOW_THREADS
+    int code = open_handle(self, &options, source);
     if (code == CLSM_OK) code = open_callers(self);
     if (code == CLSM_OK) return 0;
     self->is_closing = true;
@@ -498,6 +518,7 @@ static PyMethodDef methods[] = {
     {"_write_rows", METHOD(write_rows), METH_O, NULL},
     {"_put_words", METHOD(clsm_put_words), METH_FASTCALL, NULL},
     {"_write_if", METHOD(clsm_write_if), METH_FASTCALL, NULL},
+    {"_remove_range", METHOD(clsm_remove_keys), METH_FASTCALL, NULL},
     {"_add", METHOD(add), METH_FASTCALL, NULL},
     {"_put_if_absent", METHOD(put_if_absent), METH_FASTCALL, NULL},
     {"_replace", METHOD(replace), METH_FASTCALL, NULL},

@@ -9,23 +9,32 @@ bool clsm_has_arguments(Py_ssize_t given, Py_ssize_t wanted) {
     return false;
 }
 
+/* Whether the object is an int, or stands for one; if not, what it should be is the error. */
+static bool is_int(PyObject *object, const char *what) {
+    if (PyIndex_Check(object)) return true;
+    PyErr_Format(PyExc_TypeError, "%s, not %R", what, (PyObject *)Py_TYPE(object));
+    return false;
+}
+
 /* The number from 0 to 2^64 - 1 that the object is, or stands for. */
-static bool read_number(PyObject *object, const char *message, uint64_t *number) {
+static bool read_number(PyObject *object, const char *range, uint64_t *number) {
     PyObject *index = PyNumber_Index(object);
     if (!index) return false;
     *number = PyLong_AsUnsignedLongLong(index);
     Py_DECREF(index);
     if (*number != UINT64_MAX || !PyErr_Occurred()) return true;
-    if (PyErr_ExceptionMatches(PyExc_OverflowError)) PyErr_SetString(PyExc_ValueError, message);
+    if (PyErr_ExceptionMatches(PyExc_OverflowError)) PyErr_SetString(PyExc_ValueError, range);
     return false;
 }
 
 bool clsm_read_key(PyObject *object, uint64_t *key) {
-    return read_number(object, "a key is from 0 to 2**64 - 1", key);
+    return is_int(object, "a key is an int")
+           && read_number(object, "a key is from 0 to 2**64 - 1", key);
 }
 
 bool clsm_read_word(PyObject *object, uint64_t *word) {
-    return read_number(object, "a word is from 0 to 2**64 - 1", word);
+    return is_int(object, "a word is an int")
+           && read_number(object, "a word is from 0 to 2**64 - 1", word);
 }
 
 static bool read_words(PyObject *tuple, clsm_value *value) {
@@ -42,8 +51,13 @@ static bool read_words(PyObject *tuple, clsm_value *value) {
 
 bool clsm_read_value(PyObject *object, clsm_value *value) {
     if (PyTuple_Check(object)) return read_words(object, value);
+    if (object == Py_None) {
+        PyErr_SetString(PyExc_TypeError, "None is no value; remove removes a key");
+        return false;
+    }
     value->length = 1;
-    return clsm_read_word(object, &value->words[0]);
+    return is_int(object, "a value is an int or a tuple of 2 to 8 ints")
+           && clsm_read_word(object, &value->words[0]);
 }
 
 bool clsm_read_value_or_none(PyObject *object, clsm_value *value) {

@@ -39,6 +39,9 @@ def calls_of(store: Store) -> List[Callable[[], object]]:
         lambda: store.stats(),
         lambda: list(store.walk()),
         lambda: store.retain(lambda key, value: False),
+        lambda: store.remove_range(5, 5),
+        lambda: store.clear(),
+        lambda: store.copy(),
     ]
 
 

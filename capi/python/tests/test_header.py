@@ -18,8 +18,11 @@ HEADER = PROJECT.parent / "clsm.h"
 # What the package does without.
 UNUSED_CALLS = {
     "clsm_caller_close",
+    "clsm_clear",
     "clsm_close",
     "clsm_number",
+    "clsm_pop_first",
+    "clsm_pop_last",
     "clsm_scan_close",
     "clsm_scan_close_at",
     "clsm_scan_next",
@@ -170,6 +173,7 @@ class Declarations(unittest.TestCase):
         releasing += [library.store_open, library.store_close_at, library.snapshot_open]
         releasing += [library.caller_open, library.get_many, library.snapshot_get_many]
         releasing += [library.batch_if, library.snapshot_page_down]
+        releasing += [library.store_copy, library.remove_range]
         self.assertEqual([is_kept_by(call) for call in keeping], [True] * len(keeping))
         self.assertEqual([is_kept_by(call) for call in releasing], [False] * len(releasing))
 

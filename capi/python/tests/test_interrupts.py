@@ -16,7 +16,7 @@ from types import CodeType, FrameType
 from typing import Any, Callable, Dict, List, Optional
 from unittest import mock
 
-from cupolanettle import Closed, Store
+from cupolanettle import Closed, Store, Transaction
 
 from .support import SNAPSHOTS, SOURCES, await_mergers, in_process, in_threads
 
@@ -128,8 +128,45 @@ def write_batch(store: Store) -> None:
         batch[8] = 8
 
 
+def write_if(store: Store) -> None:
+    store.batch_if({7: 70}, {4: 4}, {(5, 6): 0})
+    store.get_many([4, 7, 7])
+
+
+def transact(store: Store) -> None:
+    with store.transaction() as t:
+        t[4] = t.get(7), len(list(t.scan(0, 8)))
+        t.remove(8)
+
+
+def run_transaction(store: Store) -> None:
+    store.transact(lambda t: t.get_many([4, 7]))
+
+
+def conflict(store: Store) -> None:
+    """The second run of a transaction, behind a conflict."""
+
+    def run(t: Transaction) -> None:
+        t[4] = t.get(8, 0)
+        if 3 not in store:
+            store[3] = store[8] = 3
+
+    store.remove(3)
+    store.transact(run)
+
+
+def remove_range(store: Store) -> None:
+    store.remove_range(4, 7)
+
+
+def copy(store: Store) -> None:
+    with store.copy() as copied:
+        copied.get(7)
+
+
 CALLS: List[Callable[[Store], None]] = [take_snapshot, keep_snapshot, scan, leave_scan]
 CALLS += [scan_snapshot, put, put_often, add, count, change, walk, write_batch]
+CALLS += [write_if, transact, run_transaction, conflict, remove_range, copy]
 
 
 class AtEachStep(unittest.TestCase):

@@ -8,6 +8,7 @@ import unittest
 from functools import partial
 from random import Random
 from typing import Any, Dict, List, Optional, Tuple
+from unittest import mock
 
 from cupolanettle import (
     Closed,
@@ -148,6 +149,26 @@ class Alone(Case):
                 t[1] = 10
             self.assertEqual(store[1], 10)
 
+    def test_values_are_read_as_the_store_gives_them(self) -> None:
+        class Number:
+            def __index__(self) -> int:
+                return 7
+
+        number: Any = Number()
+        with self.store.transaction() as t:
+            for value, wanted in (True, 1), (number, 7), ((number, False), (7, 0)):
+                t[number] = value
+                found = t[7]
+                self.assertEqual((found, type(found)), (wanted, type(wanted)))
+                self.assertEqual(list(t.scan()), [(7, wanted)])
+        self.assertEqual(self.store[7], (7, 0))
+
+    def test_it_has_no_iterator(self) -> None:
+        self.store.update({0: 10, 1: 20})
+        with self.store.transaction() as t:
+            itself: Any = t
+            self.assertRaises(TypeError, iter, itself)
+
     def test_codecs(self) -> None:
         with Store(key=text, value=floating) as store:
             named: Any = store
@@ -186,6 +207,35 @@ class Ranges(Case):
                         self.assertRaises(Conflict, t.commit)
                     else:
                         t.commit()
+
+    def test_a_scan_has_what_was_written_before_its_first_row(self) -> None:
+        self.store.update({3: 30, 5: 50, 7: 70})
+        with self.store.transaction() as t:
+            t[6] = 60
+            rows = t.scan()
+            self.assertEqual(next(rows), (3, 30))
+            t.remove(5)
+            t.remove(6)
+            t[7] = 71
+            t[8] = 80
+            self.assertEqual(list(rows), [(5, 50), (6, 60), (7, 70)])
+            self.assertEqual(list(t.scan()), [(3, 30), (7, 71), (8, 80)])
+
+    def test_a_scan_ends_with_its_transaction(self) -> None:
+        """What it read is not of the moment of what follows."""
+        self.store.update({1: 10, 2: 20})
+        t = self.store.transaction()
+        for end in t.commit, t.cancel:
+            rows = t.scan()
+            self.assertEqual(next(rows), (1, self.store[1]))
+            t[9] = 90
+            end()
+            self.store[2] = t[2] = 21
+            self.assertRaises(RuntimeError, next, rows)
+            self.assertRaises(StopIteration, next, rows)
+            self.assertEqual((t[1], t[2]), (10, 21))
+            t.commit()
+        self.assertEqual(self.store.stats().snapshots, 0)
 
     def test_own_writes_are_among_the_rows(self) -> None:
         random = Random(7)
@@ -227,6 +277,19 @@ class Running(Case):
 
         self.assertRaises(Conflict, self.store.transact, lose, tries=3)
         self.assertEqual((len(runs), self.store[2], self.store.stats().snapshots), (7, 30, 0))
+
+    def test_many_conflicts_in_a_row(self) -> None:
+        """The pause between two runs grows up to a millisecond, and not further."""
+
+        def lose(t: Transaction) -> None:
+            t[2] = t.get(1, 0)
+            self.store.add(1)
+
+        with mock.patch("time.sleep") as sleep:
+            self.assertRaises(Conflict, self.store.transact, lose, tries=2_000)
+        pauses = [call[0][0] for call in sleep.call_args_list]
+        self.assertEqual((len(pauses), pauses), (1_999, sorted(pauses)))
+        self.assertTrue(0 < pauses[0] < pauses[-1] == 1e-3)
 
 
 class Threads(unittest.TestCase):

@@ -45,21 +45,34 @@ static int expect_counted(int code, uint64_t codes, const char *call) {
 
 /* ---- Notes */
 
-static void note_write(uint64_t time, uint64_t key, uint64_t value) {
+void note_write(uint64_t time, uint64_t key, uint64_t value) {
     expect(time < TIMES && key < KEYS, "there is room for notes");
     expect(!writes[time].is_made, "no two writes have one time");
     writes[time] = (struct write){true, key, value};
 }
 
-static void note_read(uint64_t time, uint64_t key, uint64_t value) {
+void note_read(uint64_t time, uint64_t key, uint64_t value) {
     expect(reads_made < TIMES, "there is room for notes");
     reads[reads_made++] = (struct read){time, key, value, false};
 }
 
-/* The same of a key that had another value than this one. */
-static void note_other(uint64_t time, uint64_t key, uint64_t value) {
+void note_other(uint64_t time, uint64_t key, uint64_t value) {
     note_read(time, key, value);
     reads[reads_made - 1].differs = true;
+}
+
+void note_rows(uint64_t time, const clsm_row *rows, uint64_t count, uint64_t first, uint64_t end) {
+    uint64_t at = 0;
+    for (uint64_t key = first; key < end; key++) {
+        const bool has_value = at < count && rows[at].key == key;
+        note_read(time, key, has_value ? rows[at++].value.words[0] : 0);
+    }
+    expect(at == count, "rows have each key once, in order");
+}
+
+void note_count(uint64_t time, uint64_t keys) {
+    expect(counts_made < TIMES, "there is room for notes");
+    counts[counts_made++] = (struct count){time, keys};
 }
 
 static void check_read(const struct read *read) {
@@ -102,8 +115,7 @@ static void check_map(void) {
 
 static uint64_t seen_by(unsigned who) { return clsm_seen(callers[who]); }
 
-/* Of a call that took so many times: none if it is a read. */
-static void check_time(unsigned who, uint64_t seen, uint64_t took) {
+void check_time(unsigned who, uint64_t seen, uint64_t took) {
     const uint64_t time = clsm_time(callers[who]);
     expect(time >= seen && seen_by(who) == time + took, "times do not run back");
 }
@@ -115,8 +127,10 @@ static int wrote(unsigned who, uint64_t seen, int code, uint64_t key, uint64_t v
     return code;
 }
 
+uint64_t new_value(void) { return ++values; }
+
 int put(unsigned who, uint64_t key, uint64_t codes) {
-    const uint64_t value = ++values, seen = seen_by(who);
+    const uint64_t value = new_value(), seen = seen_by(who);
     int code = expect_counted(clsm_put(callers[who], key, &value, 1), codes, "put");
     return wrote(who, seen, code, key, value);
 }
@@ -143,6 +157,17 @@ int batch(unsigned who, uint64_t first, size_t count, uint64_t codes) {
     check_time(who, seen, count);
     for (size_t i = 0; i < count; i++)
         note_write(clsm_time(callers[who]) + i, first + i, value + 1 + i);
+    return code;
+}
+
+int remove_range(unsigned who, uint64_t key, uint64_t codes) {
+    const uint64_t seen = seen_by(who);
+    uint64_t keys = 0;
+    int code = clsm_remove_range(callers[who], key, key, &keys);
+    code = expect_counted(code, codes, "remove_range");
+    expect(keys <= 1, "a range of one key has no more");
+    if (keys > 0) return wrote(who, seen, code, key, 0);
+    if (code == CLSM_OK) note_read(clsm_time(callers[who]), key, 0);
     return code;
 }
 
@@ -180,15 +205,16 @@ int batch_if(unsigned who, uint64_t first, bool is_write, uint64_t codes) {
     return wrote_if(who, seen, code, expected, is_write ? rows : NULL, unmet);
 }
 
-/* Reads two keys, and a range that has both, and notes writes of both. */
-static void read_and_write(clsm_transaction *transaction, uint64_t first, clsm_row *found,
-                           clsm_row *rows) {
+/* Reads two keys, and a range that has both, and notes writes of both: OK, or why it cannot. */
+static int read_and_write(clsm_transaction *transaction, uint64_t codes, clsm_row *found,
+                          clsm_row *rows) {
+    const uint64_t first = found->key;
     clsm_row page[2];
     clsm_page_end end;
     for (size_t i = 0; i < 2; i++) {
         found[i].key = first + i;
         const int code = clsm_transaction_get(transaction, first + i, &found[i].value);
-        expect_code(code, OR(NOT_FOUND), "transaction_get");
+        if (expect_code(code, OR(NOT_FOUND) | codes, "transaction_get") >= CLSM_FULL) return code;
     }
     const int code = clsm_transaction_page(transaction, first, first + 1, page, 2, &end);
     expect_code(code, 0, "transaction_page");
@@ -198,21 +224,26 @@ static void read_and_write(clsm_transaction *transaction, uint64_t first, clsm_r
         rows[i] = (clsm_row){first + i, {1, {++values}}};
         clsm_transaction_put(transaction, first + i, rows[i].value.words, 1);
     }
+    return CLSM_OK;
 }
 
-void transact(unsigned who, uint64_t first) {
+int transact(unsigned who, uint64_t first, uint64_t codes) {
     clsm_transaction *transaction;
-    clsm_row found[2], rows[2];
+    clsm_row found[2] = {{.key = first}}, rows[2];
     uint64_t seen;
     int code;
     expect_code(clsm_transaction_open(callers[who], &transaction), 0, "transaction_open");
     do {
-        read_and_write(transaction, first, found, rows);
+        code = read_and_write(transaction, codes, found, rows);
+        if (code != CLSM_OK) break;
         seen = seen_by(who);
         code = clsm_transaction_commit(transaction);
-    } while (expect_code(code, OR(CONFLICT), "transaction_commit") == CLSM_CONFLICT);
-    wrote_if(who, seen, code, found, rows, 0);
+        expect_code(code, OR(CONFLICT) | codes, "transaction_commit");
+    } while (code == CLSM_CONFLICT);
+    refused[code]++;
+    if (code == CLSM_OK) wrote_if(who, seen, code, found, rows, 0);
     clsm_transaction_close(transaction);
+    return code;
 }
 
 int add(unsigned who, uint64_t key, uint64_t codes) {
@@ -247,23 +278,18 @@ uint64_t count_keys(unsigned who) {
     uint64_t keys;
     expect_code(clsm_count(callers[who], 0, UINT64_MAX, &keys), 0, "count");
     check_time(who, seen, 0);
-    expect(counts_made < TIMES, "there is room for notes");
-    counts[counts_made++] = (struct count){clsm_time(callers[who]), keys};
+    note_count(clsm_time(callers[who]), keys);
     return keys;
 }
 
 void page(unsigned who) {
     const uint64_t seen = seen_by(who);
-    uint64_t at = 0;
     clsm_row rows[KEYS];
     clsm_page_end end;
     expect_code(clsm_page(callers[who], 0, KEYS, rows, KEYS, &end), 0, "page");
     check_time(who, seen, 0);
-    for (uint64_t key = 0; key < KEYS; key++) {
-        const bool has_value = at < end.rows && rows[at].key == key;
-        note_read(clsm_time(callers[who]), key, has_value ? rows[at++].value.words[0] : 0);
-    }
-    expect(at == end.rows && !end.more, "a page has each key once, in order");
+    expect(!end.more, "a page has room for all keys");
+    note_rows(clsm_time(callers[who]), rows, end.rows, 0, KEYS);
 }
 
 void page_down(unsigned who) {
@@ -320,6 +346,10 @@ void look(void) {
     expect(now.epoch_writes <= the_store->cells, "an epoch has no more writes than it takes");
     if (clock_seen < now.clock) clock_seen = now.clock;
 }
+
+void expect_no_waits(void) { expect(statistics().waits == 0, "there was room for all"); }
+
+void reserve_late(void) { clsm_reserve(the_store, the_store->board.frozen - 1); }
 
 /* ---- The store */
 

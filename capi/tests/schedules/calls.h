@@ -25,16 +25,34 @@ void expect(bool holds, const char *what);
 /* Checks the answer of a call that is named, and hands it on. */
 int expect_code(int code, uint64_t codes, const char *call);
 
-/* By the caller of this number. A put writes a value that no other one does. */
+/* ---- Notes, of which the end finds whether one map explains them all */
+
+/* What was written at a time; and what was read there, or is known to have been something else. */
+void note_write(uint64_t time, uint64_t key, uint64_t value);
+void note_read(uint64_t time, uint64_t key, uint64_t value);
+void note_other(uint64_t time, uint64_t key, uint64_t value);
+/* These rows are all that the keys from first on and below the end had at a time. */
+void note_rows(uint64_t time, const clsm_row *rows, uint64_t count, uint64_t first, uint64_t end);
+/* So many keys had a value. */
+void note_count(uint64_t time, uint64_t keys);
+/* A call that was answered took so many times, none if it is a read, behind what was seen. */
+void check_time(unsigned who, uint64_t seen, uint64_t took);
+/* One that nobody has written. */
+uint64_t new_value(void);
+
+/* ---- Calls, by the caller of this number. A put writes a value that no other one does. */
+
 int put(unsigned who, uint64_t key, uint64_t codes);
 int try_put(unsigned who, uint64_t key, uint64_t codes);
 int removed(unsigned who, uint64_t key, uint64_t codes);
 int batch(unsigned who, uint64_t first, size_t count, uint64_t codes);
+/* A range of one key: a page, and a batch if that found the key. */
+int remove_range(unsigned who, uint64_t key, uint64_t codes);
 /* Reads two keys at one time, and writes both if they still have what was read, or only tests it.
  */
 int batch_if(unsigned who, uint64_t first, bool is_write, uint64_t codes);
-/* The same by a transaction, until it is written. */
-void transact(unsigned who, uint64_t first);
+/* The same by a transaction, until it is written or refused. */
+int transact(unsigned who, uint64_t first, uint64_t codes);
 int add(unsigned who, uint64_t key, uint64_t codes);
 void get(unsigned who, uint64_t key);
 /* Reads five keys at one time. */
@@ -53,5 +71,9 @@ void read_and_close(clsm_snapshot *snapshot);
 int sweep(uint64_t codes);
 /* Reads the statistics, which cannot be everything. */
 void look(void);
+/* No write has waited for room. */
+void expect_no_waits(void);
+/* What was left of the last epoch is reserved for batches only now that it is frozen. */
+void reserve_late(void);
 
 #endif

@@ -5,18 +5,18 @@
  *     schedules NAME                                  one; NAME_in_calls where writes merge
  *     schedules NAME SWITCHES CHOICES BOTH SEEDS      within other bounds
  *     schedules NAME usual | POINT:THREAD.. | seed SEED      a schedule again, as it was told */
-#include "calls.h"
+#include "parts.h"
 
 #include "../mock_core.h"
 
-enum { EPOCH = 4, KEYS = 12, NEW_KEY = 50, MERGES_OF_LEVELS = 4, PARTS = 3 };
+enum { NEW_KEY = 50, MERGES_OF_LEVELS = 4 };
 
 static unsigned numbers[PARTS]; /* of the threads of the scenario */
-static clsm_snapshot *snapshots[2];
+clsm_snapshot *snapshots[2];
 
 /* ---- Writes, and what is in their way */
 
-static void put_once(uint64_t who) { put((unsigned)who, who, 0); }
+void put_once(uint64_t who) { put((unsigned)who, who, 0); }
 
 static void put_twice(uint64_t who) {
     put_once(who);
@@ -46,15 +46,10 @@ static void batch_of_one(uint64_t who) { batch((unsigned)who, 4, 1, 0); }
 static void batch_of_two(uint64_t who) { batch((unsigned)who, 4, 2, 0); }
 static void batch_of_old(uint64_t who) { batch((unsigned)who, 1, 3, 0); }
 static void batch_of_all(uint64_t who) { batch((unsigned)who, 4, EPOCH, 0); }
-static void write_if_once(uint64_t who) { batch_if((unsigned)who, 1, true, 0); }
-static void test_once(uint64_t who) { batch_if((unsigned)who, 1, false, 0); }
-
-/* Nobody else keeps it from being written, if it is tried as often. */
-static void write_if_till_it_is(uint64_t who) {
-    while (batch_if((unsigned)who, 1, true, 0) != CLSM_OK) continue;
+static void remove_range_twice(uint64_t key) {
+    remove_range(0, key, 0);
+    remove_range(0, key, 0);
 }
-
-static void transact_once(uint64_t who) { transact((unsigned)who, 1); }
 static void sweep_once(uint64_t codes) { sweep(codes); }
 
 /* Lets others try in vain for some time. */
@@ -86,9 +81,29 @@ static void put_and_end(uint64_t who) {
     scheduler_test_cancel();
 }
 
+static void batch_and_end(uint64_t who) {
+    batch_of_two(who);
+    scheduler_test_cancel();
+}
+
+static void write_if_and_end(uint64_t who) {
+    write_if_once(who);
+    scheduler_test_cancel();
+}
+
+static void sweep_and_end(uint64_t codes) {
+    sweep(codes);
+    scheduler_test_cancel();
+}
+
+static void transact_and_end(uint64_t who) {
+    transact_once(who);
+    scheduler_test_cancel();
+}
+
 static void cancel(uint64_t part) { scheduler_cancel(numbers[part]); }
 
-static void fill(unsigned count) {
+void fill(unsigned count) {
     for (unsigned i = 0; i < count; i++) put(0, i, 0);
 }
 
@@ -100,6 +115,11 @@ static void fill_epoch(void) { fill(EPOCH); }
 static void batch_and_merge(void) {
     batch_of_two(0);
     scheduler_settle();
+}
+
+static void batch_and_reserve_late(void) {
+    batch_and_merge();
+    reserve_late();
 }
 
 /* The merge of the next epoch is a long one, of which it is known how long it takes. */
@@ -173,7 +193,7 @@ static void hold_for_a_while(void) {
     scheduler_set_time(1, true);
 }
 
-static void close_snapshot(uint64_t which) {
+void close_snapshot(uint64_t which) {
     read_and_close(snapshots[which]);
     snapshots[which] = NULL;
 }
@@ -230,135 +250,6 @@ static void sweep_and_close(uint64_t who) {
     close_all(who);
 }
 
-/* ---- Seats. One is refused only if all were wanted at some moment of the call. */
-
-static bool is_numbered[CLSM_SEATS];
-static unsigned wanted, most_wanted[PARTS];
-
-static void want(uint64_t part) {
-    wanted++;
-    for (unsigned i = 0; i < PARTS; i++)
-        if (most_wanted[i] < wanted || i == part) most_wanted[i] = wanted;
-}
-
-static void want_no_more(uint64_t part, const void *handle_or_null) {
-    expect(handle_or_null || most_wanted[part] > CLSM_SEATS, "one is refused if all are in use");
-    wanted--;
-}
-
-static void use(unsigned number) {
-    expect(number < CLSM_SEATS && !is_numbered[number], "no two have one number");
-    is_numbered[number] = true;
-    scheduler_point("is open");
-    is_numbered[number] = false;
-}
-
-static void use_caller(uint64_t part) {
-    want(part);
-    clsm_caller *caller = open_caller(OR(NO_SEAT));
-    if (caller) use(clsm_number(caller));
-    clsm_caller_close(caller);
-    want_no_more(part, caller);
-}
-
-static void use_snapshot(clsm_caller *caller, uint64_t part) {
-    want(part);
-    clsm_snapshot *snapshot = open_snapshot(caller, OR(NO_SEAT));
-    if (snapshot) use(clsm_snapshot_number(snapshot));
-    if (snapshot) read_and_close(snapshot);
-    want_no_more(part, snapshot);
-}
-
-static void use_snapshots(uint64_t part) {
-    use_snapshot(callers[0], part);
-    use_snapshot(callers[0], part);
-}
-
-static void use_store_snapshot(uint64_t part) { use_snapshot(NULL, part); }
-
-static void open_two(void) {
-    snapshots[0] = open_snapshot(callers[0], 0);
-    snapshots[1] = open_snapshot(callers[0], 0);
-    wanted += 2;
-}
-
-static void open_of_other(void) {
-    snapshots[0] = open_snapshot(callers[1], 0);
-    wanted++;
-}
-
-static void scan_once(uint64_t who) {
-    clsm_scan *scan;
-    clsm_row row;
-    expect_code(clsm_scan_open(callers[who], 0, KEYS, &scan), 0, "scan_open");
-    while (expect_code(clsm_scan_next(scan, &row), OR(DONE), "scan_next") == CLSM_OK) continue;
-    clsm_scan_close(scan);
-    get((unsigned)who, 1);
-}
-
-/* Reads in parts. */
-static void count_all(uint64_t who) { count_keys((unsigned)who); }
-static void page_all(uint64_t who) { page((unsigned)who); }
-static void page_all_down(uint64_t who) { page_down((unsigned)who); }
-static void get_five(uint64_t who) { get_many((unsigned)who); }
-
-static void look_once(uint64_t with) {
-    (void)with;
-    look();
-}
-
-static void look_twice(uint64_t with) {
-    look_once(with);
-    look_once(with);
-}
-
-/* ---- What others saw, where reads of the core may run back between two seats */
-
-static uint64_t seen;
-
-static void run_back(void) {
-    seen = 0;
-    fill(1);
-    mock_core_run_back(MOCK_READ, 1, 3);
-    mock_core_run_back(MOCK_SNAPSHOT, 1, 3);
-}
-
-static void put_and_send(uint64_t who) {
-    put_once(who);
-    seen = clsm_seen(callers[who]);
-}
-
-static void put_and_leave(uint64_t who) {
-    put_once(who);
-    const uint64_t last = clsm_seen(callers[who]);
-    clsm_caller_close(callers[who]);
-    callers[who] = NULL;
-    if (seen < last) seen = last;
-}
-
-static void follow(uint64_t who) {
-    const uint64_t sent = seen;
-    expect_code(clsm_follow(callers[who], sent), 0, "follow");
-    expect(clsm_seen(callers[who]) >= sent, "one who follows sees what was seen");
-    get((unsigned)who, 0);
-}
-
-static void open_behind(uint64_t who) {
-    const uint64_t left = seen;
-    callers[who] = open_caller(0);
-    expect(clsm_seen(callers[who]) >= left, "a caller sees what closed ones saw");
-    get((unsigned)who, 0);
-}
-
-static void snapshot_behind(uint64_t which) {
-    const uint64_t left = seen;
-    snapshots[which] = open_snapshot(NULL, 0);
-    const uint64_t time = clsm_snapshot_time(snapshots[which]);
-    expect(time >= left, "a snapshot has what closed ones saw");
-    close_snapshot(which);
-    if (seen < time) seen = time;
-}
-
 /* ---- Too many keys: so many of them are in use, and only a count tells. */
 
 static void crowd(uint64_t keys) {
@@ -390,6 +281,7 @@ static void put_old(uint64_t who) { put((unsigned)who, 0, 0); }
 static void put_new(uint64_t who) { put((unsigned)who, NEW_KEY + who, OR(RUN_FULL)); }
 static void put_new_surely(uint64_t who) { put((unsigned)who, NEW_KEY, 0); }
 static void write_if_new(uint64_t who) { batch_if((unsigned)who, NEW_KEY, true, OR(RUN_FULL)); }
+static void transact_new(uint64_t who) { transact((unsigned)who, NEW_KEY, OR(RUN_FULL)); }
 static void batch_new(uint64_t who) { batch((unsigned)who, NEW_KEY, 2, OR(RUN_FULL)); }
 
 static void try_put_new(uint64_t who) {
@@ -471,12 +363,26 @@ static const struct scenario {
              BY(put_and_end, 0), BY(put_thrice, 1), BY(cancel, 0)),
     SCENARIO(busy_batch, BOTH, USUAL, 2, fill_one, TOLD(BATCH, BUSY, 5), NULL, BY(batch_of_two, 0),
              BY(put_thrice, 1)),
+    SCENARIO(ranges, BOTH, FEWER, 2, fill_epoch, AS_IT_IS, NULL, BY(remove_range_twice, 1),
+             BY(put_twice, 1)),
+    SCENARIO(busy_ranges, BOTH, FEWER, 2, fill_epoch, TOLD(BATCH, BUSY, 5), NULL,
+             BY(remove_range_twice, 1), BY(put_twice, 1)),
     SCENARIO(busy_batches, BOTH, FEWER, 3, fill_epoch, TOLD(BATCH, BUSY, 9), NULL,
              BY(batch_of_two, 0), BY(batch_of_two, 1), BY(put_once, 2)),
     SCENARIO(batch_in_vain, BOTH, FEW, 2, fill_one, TOLD(BATCH, BUSY, -1U), NULL,
              BY(batch_of_two, 0), BY(put_and_relent, 1)),
     SCENARIO(cancelled_at_gate, BOTH, FEWER, 2, fill_one, TOLD(BATCH, BUSY, 40), NULL,
              BY(batch_of_two, 0), BY(put_and_end, 1), BY(cancel, 1)),
+    SCENARIO(cancelled_batch, BOTH, FEWER, 2, fill_one, TOLD(BATCH, BUSY, 40), NULL,
+             BY(batch_and_end, 0), BY(put_twice, 1), BY(cancel, 0)),
+    SCENARIO(cancelled_conditions, BOTH, FEWER, 2, fill_one, TOLD(BATCH, BUSY, 40), NULL,
+             BY(write_if_and_end, 0), BY(put_twice, 1), BY(cancel, 0)),
+    SCENARIO(cancelled_freeze, IN_CALLS, FEWER, 2, fill_epoch, TOLD(FREEZE, BUSY, 40), NULL,
+             BY(put_and_end, 0), BY(put_thrice, 1), BY(cancel, 0)),
+    SCENARIO(cancelled_sweep, BOTH, FEWER, 2, fill_half, TOLD(FREEZE, BUSY, 40), NULL,
+             BY(sweep_and_end, OR(IDLE)), BY(put_thrice, 1), BY(cancel, 0)),
+    SCENARIO(cancelled_transaction, BOTH, FEWER, 2, fill_one, TOLD(BATCH, BUSY, 40), NULL,
+             BY(transact_and_end, 0), BY(put_twice, 1), BY(cancel, 0)),
     SCENARIO(full_batches, BOTH, FEWER, 3, fill_epoch, AS_IT_IS, NULL, BY(batch_of_two, 0),
              BY(batch_of_all, 1), BY(put_twice, 2)),
     SCENARIO(full_and_busy, BOTH, FEWER, 1, fill_epoch, AS_IT_IS, NULL, BY(batch_of_two, 0),
@@ -487,6 +393,8 @@ static const struct scenario {
              BY(put_thrice, 0), BY(put_thrice, 1), BY(batch_and_put, 2)),
     SCENARIO(reserved_late, BESIDE, FEWER, 2, batch_and_merge, AS_IT_IS, try_surely,
              BY(put_thrice, 0), BY(put_all, 1)),
+    SCENARIO(reserved_too_late, BESIDE, USUAL, 2, batch_and_reserve_late, AS_IT_IS, expect_no_waits,
+             BY(put_once, 0), BY(put_once, 1)),
     SCENARIO(reserved_tries, BESIDE, USUAL, 2, batch_and_merge, TOLD(SWEEP, PINNED, 3), try_surely,
              BY(put_thrice, 0), BY(try_put_twice, 1)),
     SCENARIO(reserved_and_refused, BESIDE, USUAL, 2, batch_and_merge, TOLD(SWEEP, RUN_FULL, 2),
@@ -547,6 +455,8 @@ static const struct scenario {
              BY(close_snapshot, 1), BY(use_caller, 2)),
     SCENARIO(left_spare, IN_CALLS, USUAL, 2, open_of_other, AS_IT_IS, NULL, BY(close_snapshot, 0),
              BY(put_and_leave, 1), BY(use_caller, 2)),
+    SCENARIO(transactions_and_seats, IN_CALLS, FEWER, 2, NULL, AS_IT_IS, NULL, BY(use_caller, 0),
+             BY(use_transaction, 1), BY(use_store_snapshot, 2)),
     SCENARIO(lent_seat, IN_CALLS, USUAL, 2, NULL, AS_IT_IS, NULL, BY(look_twice, 0),
              BY(use_caller, 1), BY(use_snapshots, 2)),
     SCENARIO(looks, BOTH, FEWER, 2, fill_epoch, AS_IT_IS, NULL, BY(look_twice, 0), BY(scan_once, 0),
@@ -569,12 +479,31 @@ static const struct scenario {
              BY(transact_once, 1)),
     SCENARIO(transaction_and_put, BOTH, FEWER, 2, fill_half, AS_IT_IS, NULL, BY(transact_once, 0),
              BY(put_twice, 1)),
+    SCENARIO(crossed, BOTH, USUAL, 2, fill_half, AS_IT_IS, NULL, BY(cross, 0), BY(cross, 1)),
+    SCENARIO(crossed_ranges, BOTH, FEWER, 2, fill_half, AS_IT_IS, NULL, BY(cross_ranges, 0),
+             BY(cross_ranges, 1)),
+    SCENARIO(crossed_and_sweep, BOTH, FEWER, 2, fill_epoch, AS_IT_IS, NULL, BY(cross, 0),
+             BY(cross, 1), BY(sweep_once, OR(IDLE))),
+    SCENARIO(reading_transaction, BOTH, FEWER, 2, fill_epoch, AS_IT_IS, NULL,
+             BY(read_transaction, 0), BY(put_thrice, 1), BY(sweep_once, OR(IDLE))),
+    SCENARIO(reading_snapshot, BOTH, FEWER, 2, fill_epoch, AS_IT_IS, NULL, BY(read_snapshot, 0),
+             BY(batch_of_old, 1), BY(sweep_once, OR(IDLE))),
+    SCENARIO(reading_scan, BOTH, FEWER, 2, fill_epoch, AS_IT_IS, NULL, BY(scan_once, 0),
+             BY(batch_of_old, 1), BY(sweep_once, OR(IDLE))),
+    SCENARIO(walking, BOTH, FEWER, 2, fill_epoch, AS_IT_IS, NULL, BY(walk_once, 0),
+             BY(put_thrice, 1), BY(sweep_once, OR(IDLE))),
     SCENARIO(busy_conditions, BOTH, USUAL, 2, fill_one, TOLD(BATCH, BUSY, 5), NULL,
              BY(write_if_once, 0), BY(put_thrice, 1)),
     SCENARIO(tested, BOTH, FEWER, 2, fill_half, TOLD(BATCH, BUSY, 5), NULL, BY(test_once, 0),
              BY(put_twice, 1)),
     SCENARIO(held_conditions, BOTH, USUAL, 1, hold_full, AS_IT_IS, NULL, BY(close_snapshot, 0),
              BY(write_if_once, 0)),
+    SCENARIO(held_transaction, BOTH, FEWER, 1, hold_full, AS_IT_IS, NULL, BY(close_snapshot, 0),
+             BY(transact_once, 0)),
+    SCENARIO(held_transaction_and_put, BOTH, FEWER, 2, hold_one, AS_IT_IS, NULL,
+             BY(close_snapshot, 0), BY(transact_once, 0), BY(put_thrice, 1)),
+    SCENARIO(crowded_transaction, BOTH, FEWER, 2, crowd_by_none, TOLD(BATCH, BUSY, 5), check_crowd,
+             BY(transact_new, 0), BY(put_new, 1)),
     SCENARIO(crowded_conditions, BOTH, FEWER, 2, crowd_by_none, TOLD(BATCH, BUSY, 5), check_crowd,
              BY(write_if_new, 0), BY(put_new, 1)),
     SCENARIO(two_look, BOTH, FEWER, 2, fill_epoch, AS_IT_IS, NULL, BY(look_once, 0),
@@ -610,8 +539,7 @@ static void begin(void) {
     const clsm_options options = {
         .keys = KEYS, .epoch = EPOCH, .merge = kind == IN_CALLS ? CLSM_MERGE_IN_CALLS : 0};
     memset(snapshots, 0, sizeof snapshots);
-    memset(is_numbered, 0, sizeof is_numbered);
-    wanted = playing->callers;
+    begin_seats(playing->callers);
     open_store(&options, playing->callers);
     if (playing->begin) playing->begin();
     mock_core_refuse(playing->call, playing->code, playing->times);

@@ -26,6 +26,7 @@
 
 #undef CLSM_SEATS
 #define CLSM_SEATS          4
+#define CLSM_SCAN_ROWS      2
 #define CLSM_PART_ROWS      2
 #define CLSM_PART_KEYS      2
 #define CLSM_COUNT_ROWS     2

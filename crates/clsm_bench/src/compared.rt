@@ -28,6 +28,9 @@ fn picoseconds(lap: &Lap, threads: u32) -> u64 {
 pub const COLUMNS: &str =
     "line,threads,first_ps,least,greatest,second_ps,least,greatest,percent,least,greatest";
 
+/// The same where the first way is measured alone.
+pub const COLUMNS_OF_ONE: &str = "line,threads,first_ps,least,greatest";
+
 /// Does the work once: in the first of its ways, or in the second.
 fn lap<R: Threads + Sync + Clock + Wait>(
     rt: &R,
@@ -51,6 +54,18 @@ fn lap<R: Threads + Sync + Clock + Wait>(
     }
 }
 
+/// Does the work once in the second way, where that is measured.
+fn second_lap<R: Threads + Sync + Clock + Wait>(
+    rt: &R,
+    alloc: Global,
+    work: &Work,
+) -> Result<Option<Lap>, Failure> {
+    if work.options.is_alone {
+        return Ok(None);
+    }
+    Ok(Some(lap(rt, alloc, work, Way::Second)?))
+}
+
 /// The times of the work in both ways in turn, as often as the options say.
 fn rounds<R: Threads + Sync + Clock + Wait>(
     rt: &R,
@@ -60,8 +75,10 @@ fn rounds<R: Threads + Sync + Clock + Wait>(
     let mut times = Times::new(alloc);
     for _ in 0..work.options.repeat {
         let first = picoseconds(&lap(rt, alloc, work, Way::First)?, work.threads);
-        let second = picoseconds(&lap(rt, alloc, work, Way::Second)?, work.threads);
-        times.push(first, second)?;
+        times.push_first(first)?;
+        if let Some(lap) = second_lap(rt, alloc, work)? {
+            times.push_second(first, picoseconds(&lap, work.threads))?;
+        }
     }
     Ok(times)
 }
@@ -80,11 +97,11 @@ fn print_times<R: Print>(
     println!(rt; "{name} threads {threads} {times}")
 }
 
-/// Does the line's work by so many threads in two ways in turn, as often as the options say and
-/// once more before, to warm up. Prints the line: the picoseconds of a call of all threads
-/// together, in the first way and in the second, and how many hundredths of the first the second
-/// is; as a row of comma-separated values if the options say so. Of no round that is kept it prints
-/// the calls alone.
+/// Does the line's work by so many threads in two ways in turn, or in the first alone, as often as
+/// the options say and once more before, to warm up. Prints the line: the picoseconds of a call of
+/// all threads together, in the first way and in the second, and how many hundredths of the first
+/// the second is; as a row of comma-separated values if the options say so. Of no round that is
+/// kept it prints the calls alone.
 pub fn compare<R: Threads + Sync + Clock + Wait + Print + AllocGlobal>(
     rt: &R,
     line: &Line,
@@ -100,9 +117,12 @@ pub fn compare<R: Threads + Sync + Clock + Wait + Print + AllocGlobal>(
         threads,
     };
     let first = lap(rt, alloc, &work, Way::First)?.calls;
-    let second = lap(rt, alloc, &work, Way::Second)?.calls;
-    if options.repeat == 0 {
-        println!(rt; "{name} threads {threads} calls {first} and {second}")?;
+    let second = second_lap(rt, alloc, &work)?;
+    if let (Some(second), 0) = (second, options.repeat) {
+        println!(rt;
+            "{name} threads {threads} calls {first} and {}",
+            second.calls
+        )?;
         return Ok(());
     }
     let times = rounds(rt, alloc, &work)?.text(alloc, options.is_csv)?;

@@ -19,9 +19,6 @@ pub const NEW_KEYS: u32 = 65_536;
 /// The keys at one of which nine in ten calls of a hot draw are.
 const HOT: u32 = 16;
 
-/// The rows of a scan in a mix.
-const ROWS: u32 = 16;
-
 /// A call, and what is to be answered.
 #[derive(Clone, Copy)]
 pub enum Call {
@@ -155,8 +152,8 @@ impl<'a> Series<'a> {
                 word: u64::from(index),
             },
             Kind::Change => Call::Change { key },
-            Kind::Scan => self.range(words.next_word(), ROWS, false),
-            Kind::Page => self.range(words.next_word(), ROWS, true),
+            Kind::Scan => self.range(words.next_word(), mix.rows(), false),
+            Kind::Page => self.range(words.next_word(), mix.rows(), true),
         }
     }
 

@@ -18,6 +18,9 @@ pub enum Failure {
     Unanswered,
     #[error("no memory")]
     Memory,
+    /// No line is measured.
+    #[error("the series has no such line, or not for so many threads")]
+    NoLine,
 }
 
 /// Why the program does not measure to its end.

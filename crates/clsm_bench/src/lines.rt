@@ -4,7 +4,7 @@ use crate::lines::Filling::{BothEpochs, Epoch, HalfEpoch, Runs};
 use crate::lines::Role::*;
 use crate::mixes::Draw::{self, One, Uniform, Zipf};
 use crate::mixes::Mix::{
-    self, FewKeys, GetsAndPuts, MostlyGets, PagesAndInserts, ScansAndPuts, Sustained,
+    self, FewKeys, GetsAndPuts, MostlyGets, PagesAndInserts, ScansAndPuts, Sustained, WholeScans,
 };
 
 /// What is measured.
@@ -113,13 +113,14 @@ macro_rules! line {
 }
 
 /// The lines of writes and merges, of mixes, and of what goes on beside others.
-const LINES: [Line; 37] = [
+const LINES: [Line; 39] = [
     line!("calls", "puts scattered"; 1, 4; Puts, Epoch, Nothing),
     line!("calls", "puts rising"; 1, 4; RisingPuts, Epoch, Nothing),
     line!("calls", "one puts epoch"; 2, 4; OnePuts, Epoch, Nothing),
     line!("calls", "one puts runs"; 2, 4; OnePuts, Runs, Nothing),
     line!("calls", "mixed epoch"; 1, 4; Mixed, Epoch, Nothing),
     line!("calls", "mixed hot epoch"; 1, 4; HotMixed, Epoch, Nothing),
+    line!("mixes", "scans of 16"; 1, 4; Several(Mix::Scans, Uniform), HalfEpoch, Session),
     line!("mixes", "scans 95, puts 5"; 1, 4; Several(ScansAndPuts, Uniform), HalfEpoch, Session),
     line!("mixes", "pages 95, inserts 5"; 1, 4; Several(PagesAndInserts, Uniform), HalfEpoch, Session),
     line!("mixes", "gets 95, puts 5, uniform"; 1, 4; Several(MostlyGets, Uniform), HalfEpoch, Session),
@@ -129,6 +130,7 @@ const LINES: [Line; 37] = [
     line!("mixes", "gets 50, puts 50, one key"; 1, 4; Several(GetsAndPuts, One), HalfEpoch, Session),
     line!("mixes", "all calls, 64 keys, 65,536 cells"; 1, 4; Several(FewKeys(65_536), Uniform), HalfEpoch, Session),
     line!("mixes", "all calls, 64 keys, 4,096 cells"; 1, 4; Several(FewKeys(4_096), Uniform), HalfEpoch, Session),
+    line!("mixes", "all calls, 10,000 keys, whole scans"; 1, 4; Several(WholeScans(10_000), Uniform), HalfEpoch, Session),
     line!("mixes", "puts sustained, uniform"; 1, 4; Several(Sustained, Uniform), HalfEpoch, Session),
     line!("mixes", "puts sustained, Zipf"; 1, 4; Several(Sustained, Zipf), HalfEpoch, Session),
     line!("beside", "gets runs, merger"; 1, 4; Gets, Runs, Merger),

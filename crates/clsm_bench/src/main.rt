@@ -22,7 +22,7 @@ mod sweeper;
 mod target;
 mod times;
 
-use crate::compared::{COLUMNS, compare};
+use crate::compared::{COLUMNS, COLUMNS_OF_ONE, compare};
 use crate::failure::{Failure, Stop};
 use crate::lines::{Line, TABLES};
 use crate::options::{Asked, Options};
@@ -32,34 +32,53 @@ use std::rt::{Clock, Env};
 use std::sync::Wait;
 use std::thread::Threads;
 
-/// Prints the line for each of its numbers of threads, or for the last alone where little is
-/// measured.
+/// Whether the line is measured for so many threads: for each of its numbers, or for the last alone
+/// where little is measured.
+fn is_measured(line: &Line, options: &Options, threads: u32) -> bool {
+    let (fewest, most) = (line.fewest, line.most);
+    if threads != options.threads.unwrap_or(threads) {
+        return false;
+    }
+    threads == most || (options.repeat > 0 && fewest <= threads && threads < most)
+}
+
+/// Prints the line for each number of threads for which it is measured, and answers how many these
+/// are.
 fn measure_line<R: Threads + Sync + Clock + Wait + Print + AllocGlobal>(
     rt: &R,
     line: &Line,
     options: &Options,
-) -> Result<(), Failure> {
-    let (fewest, most) = (line.fewest, line.most);
+) -> Result<u32, Failure> {
+    let mut measured: u32 = 0;
     for threads in [1, 2, 4] {
-        if threads == most || (options.repeat > 0 && fewest <= threads && threads < most) {
+        if is_measured(line, options, threads) {
             compare(rt, line, options, threads)?;
+            measured = measured.saturating_add(1);
         }
     }
-    Ok(())
+    Ok(measured)
 }
 
-/// Prints the lines of the series, or all.
+/// Prints the lines that are asked for, or all. Refused where none is measured.
 fn measure<R: Threads + Sync + Clock + Wait + Print + AllocGlobal>(
     rt: &R,
-    series: Option<&str>,
+    asked: Option<&Asked>,
     options: &Options,
 ) -> Result<(), Failure> {
+    let mut measured: u32 = 0;
     for lines in TABLES {
         for line in lines {
-            if series.unwrap_or(line.series) == line.series {
-                measure_line(rt, line, options)?;
+            let is_asked = match asked {
+                Some(asked) => asked.has(line),
+                None => true,
+            };
+            if is_asked {
+                measured = measured.saturating_add(measure_line(rt, line, options)?);
             }
         }
+    }
+    if measured == 0 {
+        return Err(Failure::NoLine);
     }
     Ok(())
 }
@@ -70,17 +89,21 @@ fn words<R: Env + AllocGlobal>(rt: &R) -> Result<Vec<String>, Failure> {
     Ok(words)
 }
 
-/// Prints the lines of the series, below a row that says what stands in those of comma-separated
-/// values.
+/// Prints the lines that are asked for, below a row that says what stands in those of
+/// comma-separated values.
 fn measure_asked<R: Threads + Sync + Clock + Wait + Print + AllocGlobal>(
     rt: &R,
     asked: &Asked,
 ) -> Result<(), Failure> {
-    let Asked { series, options } = asked;
+    let options = &asked.options;
     if options.is_csv {
-        println!(rt; "{COLUMNS}")?;
+        let columns = match options.is_alone {
+            true => COLUMNS_OF_ONE,
+            false => COLUMNS,
+        };
+        println!(rt; "{columns}")?;
     }
-    measure(rt, Some(series.as_str()), options)
+    measure(rt, Some(asked), options)
 }
 
 /// Does the work that the words on the command line ask for, or a little of each.

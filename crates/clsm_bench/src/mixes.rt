@@ -8,6 +8,12 @@ use std::num::saturating_f64_to_u64;
 /// The most calls that a thread makes in one round, as they are all drawn before.
 const MOST_DRAWN: u32 = 1 << 20;
 
+/// The most where scans are of all keys.
+const MOST_WITH_ALL: u32 = 2_000;
+
+/// The rows of a scan or page of some keys.
+const SOME_ROWS: u32 = 16;
+
 /// The exponent of Zipf's law.
 const EXPONENT: f64 = 0.99;
 
@@ -29,6 +35,8 @@ pub enum Draw {
 
 /// Calls of several kinds, by their shares in a hundred.
 pub enum Mix {
+    /// Scans of 16 rows.
+    Scans,
     /// 95 scans of 16 rows, 5 puts at filled keys.
     ScansAndPuts,
     /// 95 pages of 16 rows, 5 puts at keys that had no value.
@@ -40,6 +48,8 @@ pub enum Mix {
     /// Of a few keys 40 gets, 40 puts, 10 changes and 10 scans of 16 rows. The store has so many
     /// cells at most.
     FewKeys(u32),
+    /// The same shares, of so many keys at most; the scans are of all of them.
+    WholeScans(u32),
     /// Puts at filled keys, epoch after epoch.
     Sustained,
 }
@@ -59,13 +69,23 @@ impl Mix {
     /// The kind of the calls with this number of a hundred.
     pub fn kind(&self, number: u32) -> Kind {
         match (self, number) {
-            (Mix::ScansAndPuts, 0..95) | (Mix::FewKeys(_), 0..10) => Kind::Scan,
+            (Mix::Scans, _) | (Mix::ScansAndPuts, 0..95) => Kind::Scan,
+            (Mix::FewKeys(_) | Mix::WholeScans(_), 0..10) => Kind::Scan,
             (Mix::PagesAndInserts, 0..95) => Kind::Page,
             (Mix::MostlyGets, 0..95) => Kind::Get,
-            (Mix::GetsAndPuts, 0..50) | (Mix::FewKeys(_), 10..50) => Kind::Get,
-            (Mix::FewKeys(_), 50..60) => Kind::Change,
+            (Mix::GetsAndPuts, 0..50) => Kind::Get,
+            (Mix::FewKeys(_) | Mix::WholeScans(_), 10..50) => Kind::Get,
+            (Mix::FewKeys(_) | Mix::WholeScans(_), 50..60) => Kind::Change,
             (Mix::PagesAndInserts, _) => Kind::Insert,
             _ => Kind::Put,
+        }
+    }
+
+    /// The rows of a scan or page, of all keys where they are fewer.
+    pub fn rows(&self) -> u32 {
+        match self {
+            Mix::WholeScans(_) => u32::MAX,
+            _ => SOME_ROWS,
         }
     }
 
@@ -73,6 +93,7 @@ impl Mix {
     pub fn calls(&self, options: &Options, threads: u32) -> u32 {
         let calls = match (self, options.puts) {
             (Mix::Sustained, Some(puts)) => puts / threads.max(1),
+            (Mix::WholeScans(_), _) => options.calls.min(MOST_WITH_ALL),
             _ => options.calls,
         };
         calls.min(MOST_DRAWN)

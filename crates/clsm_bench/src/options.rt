@@ -1,5 +1,6 @@
 //! The command line of the benchmark: which series is measured, and its sizes.
 use crate::failure::Stop;
+use crate::lines::Line;
 use clap::builder::ValueParser;
 use clap::{Arg, ArgAction, ArgMatches, Command};
 use std::alloc::{AllocError, Global};
@@ -23,6 +24,10 @@ pub struct Options {
     pub keys: u32,
     /// The cells of a store: the times that it has for puts before a merge.
     pub cells: u32,
+    /// The only number of threads that is measured, if one is said.
+    pub threads: Option<u32>,
+    /// Whether the work is done in the first way alone.
+    pub is_alone: bool,
     /// Whether each line is printed as comma-separated values.
     pub is_csv: bool,
 }
@@ -35,6 +40,8 @@ impl Options {
         repeat: 0,
         keys: 40,
         cells: 256,
+        threads: None,
+        is_alone: false,
         is_csv: false,
     };
 
@@ -51,6 +58,8 @@ impl Options {
             repeat: number(matches, "repeat").unwrap_or(9),
             keys: number(matches, "keys").unwrap_or(32_768),
             cells: number(matches, "cells").unwrap_or(65_536),
+            threads: number(matches, "threads"),
+            is_alone: matches.get_one::<bool>("alone").unwrap_or(false),
             is_csv: matches.get_one::<bool>("csv").unwrap_or(false),
         }
     }
@@ -62,7 +71,7 @@ fn number(matches: &ArgMatches<'_>, name: &str) -> Option<u32> {
 }
 
 /// The options `--NAME N`: the name, the least number, the greatest, and the help.
-const SIZES: [(&str, u64, u64, &str); 4] = [
+const SIZES: [(&str, u64, u64, &str); 5] = [
     (
         "calls",
         1,
@@ -82,22 +91,35 @@ const SIZES: [(&str, u64, u64, &str); 4] = [
         65_536,
         "The cells of a store [default: 65536]",
     ),
+    ("threads", 1, 4, "Lines of so many threads alone: 1, 2 or 4"),
 ];
 
-/// All arguments: the series, the numbers and `--csv`.
+/// The switches `--NAME`: the name and the help.
+const SWITCHES: [(&str, &str); 2] = [
+    ("alone", "Measures the first way of each line alone"),
+    ("csv", "Prints rows for tools/plot"),
+];
+
+/// All arguments: the series, a line's name, the numbers and the switches.
 fn args<'a>(alloc: Global) -> Result<Vec<Arg<'a>>, AllocError> {
     let mut args = Vec::new(alloc);
     let series = Arg::new(alloc, "series").value_name("SERIES");
     let series = series.required(true).help("What is measured");
     args.push(series.value_parser(ValueParser::Names(&SERIES)))?;
+    let line = Arg::new(alloc, "line").long("line").value_name("NAME");
+    let line = line.help("The line of this name alone");
+    args.push(line.value_parser(ValueParser::String))?;
     for row in 0..SIZES.len() {
         let (name, low, high, help) = SIZES[row];
         let size = Arg::new(alloc, name).long(name).value_name("N");
         let numbers = ValueParser::Unsigned(low, high);
         args.push(size.value_parser(numbers).help(help))?;
     }
-    let csv = Arg::new(alloc, "csv").action(ArgAction::SetTrue);
-    args.push(csv.long("csv").help("Prints rows for tools/plot"))?;
+    for row in 0..SWITCHES.len() {
+        let (name, help) = SWITCHES[row];
+        let switch = Arg::new(alloc, name).action(ArgAction::SetTrue);
+        args.push(switch.long(name).help(help))?;
+    }
     Ok(args)
 }
 
@@ -112,18 +134,36 @@ fn program<'a>(alloc: Global) -> Result<Command<'a>, AllocError> {
 #[derive(Drop)]
 pub struct Asked {
     /// The name of the lines that are measured.
-    pub series: String,
+    series: String,
+    /// The name of the only line of them, if one is said.
+    line: Option<String>,
     pub options: Options,
 }
 
 impl Asked {
+    /// Whether the line is asked for.
+    pub fn has(&self, line: &Line) -> bool {
+        if line.series != self.series.as_str() {
+            return false;
+        }
+        match &self.line {
+            Some(name) => line.name == name.as_str(),
+            None => true,
+        }
+    }
+
     /// Reads the words of a command line, the first of which is the program's name. Refused where
     /// clap finds a fault in them or they ask for help, and if memory runs out.
     pub fn parse(alloc: Global, words: &[String]) -> Result<Asked, Stop> {
         let matches = program(alloc)?.try_get_matches_from(words)?;
         let series = matches.get_str("series").unwrap_or("");
+        let line = match matches.get_str("line") {
+            Some(name) => Some(String::from_str(alloc, name)?),
+            None => None,
+        };
         Ok(Asked {
             series: String::from_str(alloc, series)?,
+            line,
             options: Options::chosen(&matches),
         })
     }

@@ -5,7 +5,7 @@ use crate::lines::Beside::Scanner;
 use crate::lines::Filling::Epoch;
 use crate::lines::Line;
 use crate::lines::Role::*;
-use crate::mixes::Mix::FewKeys;
+use crate::mixes::Mix::{FewKeys, WholeScans};
 use crate::options::Options;
 use clsm_store::Config;
 
@@ -32,6 +32,7 @@ impl Line {
     pub fn limit(&self, options: &Options) -> Options {
         let (keys, cells) = match &self.role {
             Several(FewKeys(cells), _) => (FEW_KEYS, *cells),
+            Several(WholeScans(keys), _) => (*keys, u32::MAX),
             _ => (u32::MAX, u32::MAX),
         };
         Options {

@@ -41,7 +41,16 @@ fn line_of(alloc: Global, spreads: [Spread; 3], is_csv: bool) -> Result<String, 
     format!(in alloc; "ps {first} ps {second} percent {percent}")
 }
 
-/// The times of rounds in both ways, in picoseconds a call, and how many hundredths of the first
+/// The spread of the times in the first way as a text.
+fn line_of_one(alloc: Global, first: Spread, is_csv: bool) -> Result<String, AllocError> {
+    let first = first.text(alloc, is_csv)?;
+    if is_csv {
+        return Ok(first);
+    }
+    format!(in alloc; "ps {first}")
+}
+
+/// The times of rounds in both ways, or in the first alone, in picoseconds a call, and how many hundredths of the first
 /// each second one is.
 #[derive(Drop)]
 pub struct Times {
@@ -59,9 +68,14 @@ impl Times {
         }
     }
 
-    /// Adds a round.
-    pub fn push(&mut self, first: u64, second: u64) -> Result<(), AllocError> {
+    /// Adds a round's time in the first way.
+    pub fn push_first(&mut self, first: u64) -> Result<(), AllocError> {
         self.firsts.push(first)?;
+        Ok(())
+    }
+
+    /// Adds the time in the second way of the round that had this one in the first.
+    pub fn push_second(&mut self, first: u64, second: u64) -> Result<(), AllocError> {
         self.seconds.push(second)?;
         self.percents
             .push(second.saturating_mul(100) / first.max(1))?;
@@ -71,6 +85,9 @@ impl Times {
     /// As a line shows them, or as the values of a row.
     pub fn text(self, alloc: Global, is_csv: bool) -> Result<String, AllocError> {
         let first = Spread::new(self.firsts)?;
+        if self.seconds.is_empty() {
+            return line_of_one(alloc, first, is_csv);
+        }
         let second = Spread::new(self.seconds)?;
         let percent = Spread::new(self.percents)?;
         line_of(alloc, [first, second, percent], is_csv)

@@ -2,33 +2,29 @@
 ghost use Rattle.std.specs.Prelude.{◌≡◌, ◌<◌, IfErr, IfNone, IfOk, IfSome};
 ghost use Rattle.clsm_model.specs.declared.record.Deed.TheVariants.{Remove};
 ghost use Rattle.clsm_model.specs.Changes.{Adds};
-ghost use Rattle.clsm_store.specs.Freezing.{TryFreezes};
-ghost use Rattle.clsm_store.specs.Phase.{CountsIfFrozen};
 ghost use Rattle.clsm_store.specs.Promises.{ClosesSnapshot, CountsRange, Gets, GetsAtIfOpen, OpensSnapshot, TriesToChangeBy, TriesToWrite};
-ghost use Rattle.clsm_store.specs.Sweeping.{TrySweeps};
-ghost use Rattle.clsm_c.specs.Calls.{AreMembers, BatchesRows, ByCaller, ByMerger, HasLong, IsMember, IsNext, LooksAtPhase, Opens, Pages, PagesDown};
+ghost use Rattle.clsm_c.specs.Calls.{AreMembers, BatchesRows, ByCaller, HasLong, IsMember, IsNext, Opens, Pages, PagesDown};
 ghost use Rattle.clsm_c.specs.Calls.{PutsRow, ReplacesValue, TakesCaller, TakesMerger, TellsBatch, TellsChange, TellsClosed, TellsCounted};
-ghost use Rattle.clsm_c.specs.Calls.{TellsEntries, TellsFreeze, TellsGot, TellsGotAt, TellsOpened, TellsPage, TellsRefused, TellsSweep, TellsTry, Told};
+ghost use Rattle.clsm_c.specs.Calls.{TellsGot, TellsGotAt, TellsOpened, TellsPage, TellsRefused, TellsTry, Told};
 ghost use Rattle.clsm_c.specs.Calls.{kept_code, refusal_code, value_after};
 ghost use Rattle.clsm_c.specs.Conditional.{BatchesRowsIf, TellsBatchIf, no_members_code};
 
 use crate::codes::{
     BAD_BATCH, BAD_EPOCH, BAD_KEYS, BAD_PATIENCE, BAD_SEATS, BAD_SHARDS, BAD_VALUE, BUSY, Code,
-    FULL, IDLE, KEPT, MEMORY, NO_HANDLE, NO_SNAPSHOT, NOT_FOUND, OK, OPEN, OVERTAKEN, PINNED,
-    RACED, RUN_FULL, WORN,
+    FULL, KEPT, MEMORY, NO_HANDLE, NO_SNAPSHOT, NOT_FOUND, OK, OPEN, OVERTAKEN, RACED,
 };
 use crate::conditions::to_conditions;
 use crate::opening;
-use crate::shared::{SharedCaller, SharedMerger};
+use crate::shared::SharedCaller;
 use crate::slots::{CallerSlot, MergerSlot, StoreSlot};
 use crate::types::{
-    CoreAdding, CoreChanged, CoreCode, CoreCounted, CoreEntries, CoreGot, CoreKey, CorePaged,
-    CorePhase, CoreRange, CoreRangeCount, CoreReplacing, CoreRow, CoreSizes, CoreTime, CoreTurn,
-    CoreUnmet, CoreUsed, TooLong, from_core, leave, value_or_none,
+    CoreAdding, CoreChanged, CoreCode, CoreCounted, CoreGot, CoreKey, CorePaged, CoreRange,
+    CoreRangeCount, CoreReplacing, CoreRow, CoreSizes, CoreTime, CoreUnmet, TooLong, from_core,
+    leave, value_or_none,
 };
 use clsm_store::{
-    BatchError, BatchIfError, Change, Config, Filled, Got, Merger, OpenError, Phase, Rmw, Stopped,
-    Time, TryBatchError, TryBatchIfError, TryFroze, TryPutError, TrySwept, Value, Worn,
+    BatchError, BatchIfError, Change, Config, Filled, Got, OpenError, Rmw, Time, TryBatchError,
+    TryBatchIfError, TryPutError, Value,
 };
 use std::alloc::Global;
 
@@ -524,93 +520,4 @@ pub(crate) fn page_down(
         .store
         .page_down_into(caller.alloc, &mut caller.seat, ask.first, ask.last, rows);
     tell_page(&found, answer)
-}
-
-// ---- the merger's
-
-pub(crate) fn phase_of(slot: &mut MergerSlot, answer: &mut CorePhase) -> Code
-    ensures { ByMerger (LooksAtPhase answer.new result) slot.old.merger slot.new.merger result }
-{
-    let Some(merger) = &slot.merger else {
-        return NO_HANDLE;
-    };
-    answer.frozen = matches!(merger.phase, Phase::Frozen(_));
-    answer.retired = matches!(merger.phase, Phase::Retired(_));
-    OK
-}
-
-/// The code of what a freeze came to.
-fn freeze_code(came: Result<TryFroze, Worn>) -> Code
-    ensures { TellsFreeze result came }
-{
-    match came {
-        Ok(TryFroze::Done) => OK,
-        Ok(TryFroze::Waited) => IDLE,
-        Ok(TryFroze::Busy) => BUSY,
-        Err(_) => WORN,
-    }
-}
-
-pub(crate) fn try_freeze(slot: &mut MergerSlot, ask: &CoreUsed) -> Code
-    ensures { ByMerger (λ before after. Told (TryFreezes ask.now.used before after)
-        (TellsFreeze result)) slot.old.merger slot.new.merger result }
-{
-    let Some(SharedMerger { store, phase }) = slot.merger.take() else {
-        return NO_HANDLE;
-    };
-    let merger = Merger {
-        store: &store,
-        phase,
-    };
-    let (Merger { phase, .. }, came) = merger.try_freeze_if_used(ask.used);
-    slot.merger = Some(SharedMerger { store, phase });
-    freeze_code(came)
-}
-
-/// Tells what a sweep came to, and which caller stopped it, if one did.
-fn tell_sweep(came: Result<TrySwept, Stopped>, answer: &mut CoreTime) -> Code
-    ensures { TellsSweep answer.new result came }
-{
-    match came {
-        Ok(TrySwept::Done) => OK,
-        Ok(TrySwept::Waited) => IDLE,
-        Ok(TrySwept::Busy) => BUSY,
-        Err(Stopped::RunFull(_)) => RUN_FULL,
-        Err(Stopped::Worn(_)) => WORN,
-        Err(Stopped::Pinned(seat)) => {
-            answer.time = u64::from(seat.0);
-            PINNED
-        }
-    }
-}
-
-pub(crate) fn try_sweep(slot: &mut MergerSlot, ask: &CoreUsed, answer: &mut CoreTime) -> Code
-    ensures { ByMerger (λ before after. Told (TrySweeps ask.now.used before after)
-        (TellsSweep answer.new result)) slot.old.merger slot.new.merger result }
-{
-    let Some(SharedMerger { store, phase }) = slot.merger.take() else {
-        return NO_HANDLE;
-    };
-    let merger = Merger {
-        store: &store,
-        phase,
-    };
-    let (Merger { phase, .. }, came) = merger.try_sweep_if_used(ask.used);
-    slot.merger = Some(SharedMerger { store, phase });
-    tell_sweep(came, answer)
-}
-
-pub(crate) fn count_entries(slot: &mut MergerSlot, ask: &CoreTurn, answer: &mut CoreEntries) -> Code
-    ensures { ByMerger (λ before after. Told (CountsIfFrozen before after ask.now.turn)
-        (TellsEntries answer.new result)) slot.old.merger slot.new.merger result }
-{
-    answer.entries = 0;
-    let Some(merger) = &mut slot.merger else {
-        return NO_HANDLE;
-    };
-    let Ok(entries) = merger.phase.entries(&*merger.store, ask.turn) else {
-        return IDLE;
-    };
-    answer.entries = entries;
-    OK
 }

@@ -27,6 +27,7 @@ mod calls;
 pub mod codes;
 mod conditions;
 mod many;
+mod merging;
 mod opening;
 mod shared;
 mod slots;
@@ -434,7 +435,7 @@ pub unsafe extern "C" fn clsm_core_phase_of(merger: *mut u8, answer: &mut CorePh
     requires* { sem 𝓛 (lies merger_row merger old) }
     ensures* { sem 𝓛 (left merger_row merger (λ new. ByMerger (LooksAtPhase answer.new result) old.merger new.merger result)) }
 {
-    calls::phase_of(unsafe { &mut *merger.cast::<MergerSlot>() }, answer)
+    merging::phase_of(unsafe { &mut *merger.cast::<MergerSlot>() }, answer)
 }
 
 /// Freezes the epoch, if `used` of its timestamps are drawn, or all, so that writes find room
@@ -448,7 +449,7 @@ pub unsafe extern "C" fn clsm_core_try_freeze(merger: *mut u8, ask: &CoreUsed) -
     ensures* { sem 𝓛 (left merger_row merger (λ new. ByMerger (λ before after.
         Told (TryFreezes ask.now.used before after) (TellsFreeze result)) old.merger new.merger result)) }
 {
-    calls::try_freeze(unsafe { &mut *merger.cast::<MergerSlot>() }, ask)
+    merging::try_freeze(unsafe { &mut *merger.cast::<MergerSlot>() }, ask)
 }
 
 /// Freezes the epoch as `clsm_core_try_freeze`, merges it, and reclaims what that retired; goes on
@@ -466,7 +467,7 @@ pub unsafe extern "C" fn clsm_core_try_sweep(
     ensures* { sem 𝓛 (left merger_row merger (λ new. ByMerger (λ before after.
         Told (TrySweeps ask.now.used before after) (TellsSweep answer.new result)) old.merger new.merger result)) }
 {
-    calls::try_sweep(unsafe { &mut *merger.cast::<MergerSlot>() }, ask, answer)
+    merging::try_sweep(unsafe { &mut *merger.cast::<MergerSlot>() }, ask, answer)
 }
 
 /// Answers how many entries the run has that is searched at this turn, counted from 0: those of
@@ -483,5 +484,5 @@ pub unsafe extern "C" fn clsm_core_count_entries(
     ensures* { sem 𝓛 (left merger_row merger (λ new. ByMerger (λ before after.
         Told (CountsIfFrozen before after ask.now.turn) (TellsEntries answer.new result)) old.merger new.merger result)) }
 {
-    calls::count_entries(unsafe { &mut *merger.cast::<MergerSlot>() }, ask, answer)
+    merging::count_entries(unsafe { &mut *merger.cast::<MergerSlot>() }, ask, answer)
 }

@@ -55,8 +55,14 @@ plain_rules = (
                           (
                             (refl, inr (inl (refl, codes "true", [], refl)), refl),
                             (
-                              (refl, inr (inr refl), refl),
-                              tt,
+                              (refl, inr (inl (refl, codes "true", [], refl)), refl),
+                              (
+                                (refl, inr (inl (refl, codes "true", [], refl)), refl),
+                                (
+                                  (refl, inr (inr refl), refl),
+                                  tt,
+                                ),
+                              ),
                             ),
                           ),
                         ),

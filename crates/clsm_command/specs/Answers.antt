@@ -71,6 +71,8 @@ run rows = record {
   keys = number_of (codes "keys") rows;
   seed = number_of (codes "seed") rows;
   batch = flag_of (codes "batch") rows;
+  many = flag_of (codes "many") rows;
+  swap = flag_of (codes "swap") rows;
   wait = flag_of (codes "wait") rows;
   shows = shows rows;
 }

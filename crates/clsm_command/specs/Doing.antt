@@ -27,6 +27,8 @@ pub record AsksRun (options : RunOptions) (asked : AskedRun) : Type 0 where
   pub keys : asked.load.keys ≡ options.keys
   pub seed : asked.load.seed ≡ options.seed
   pub batch : asked.load.batch ≡ options.batch
+  pub many : asked.load.many ≡ options.many
+  pub swap : asked.load.swap ≡ options.swap
   pub waits : asked.waits ≡ options.wait
   pub shows : asked.shows ≡ options.shows
 

@@ -28,6 +28,10 @@ pub struct RunOptions {
     pub seed: u64,
     /// `--batch`: batches are among the calls.
     pub batch: bool,
+    /// `--many`: reads of several keys at one time are.
+    pub many: bool,
+    /// `--swap`: batches with conditions are, which exchange what two keys have.
+    pub swap: bool,
     /// `--wait`: a write waits for room.
     pub wait: bool,
     /// `--stats`, `--progress`, `--records` and `--clock`.

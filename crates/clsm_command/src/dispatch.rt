@@ -138,6 +138,8 @@ fn asked_run(options: &RunOptions) -> AskedRun
         keys: options.keys,
         seed: options.seed,
         batch: options.batch,
+        many: options.many,
+        swap: options.swap,
     };
     AskedRun {
         config: options.config,

@@ -113,6 +113,11 @@ pub(crate) const SEED: &str = "What the calls are drawn from";
 
 pub(crate) const BATCH: &str = "Draw batches of two writes, too: one call in sixteen";
 
+pub(crate) const MANY: &str = "Draw reads of four keys at one time, too: one call in sixteen";
+
+pub(crate) const SWAP: &str =
+    "Draw conditional batches that exchange two values, too: one call in sixteen";
+
 pub(crate) const WAIT: &str = "Let a write wait for room, in place of refusing it";
 
 pub(crate) const STATS: &str =

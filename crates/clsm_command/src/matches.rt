@@ -75,6 +75,8 @@ fn run(matches: &ArgMatches<'_>) -> RunOptions
         keys: number(matches, "keys"),
         seed: number(matches, "seed"),
         batch: flag(matches, "batch"),
+        many: flag(matches, "many"),
+        swap: flag(matches, "swap"),
         wait: flag(matches, "wait"),
         shows: shows(matches),
     }

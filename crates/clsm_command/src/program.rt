@@ -94,6 +94,8 @@ fn run<'a>(alloc: Global) -> Result<Command<'a>, AllocError>
         size(alloc, "run", "65536", help::RUN_ROOM),
         size(alloc, "patience", "16", help::PATIENCE),
         flag(alloc, "batch", help::BATCH),
+        flag(alloc, "many", help::MANY),
+        flag(alloc, "swap", help::SWAP),
         flag(alloc, "wait", help::WAIT),
         flag(alloc, "stats", help::STATS),
         flag(alloc, "progress", help::RUN_PROGRESS),

@@ -1,2 +1,3 @@
 pub mod Planned
 pub mod Playing
+pub mod Testing

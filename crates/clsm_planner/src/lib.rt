@@ -2,6 +2,7 @@
 //! what those before it found.
 #![tactic(auto)]
 
+mod any_deal;
 mod batching;
 mod caller;
 mod cells;
@@ -15,11 +16,14 @@ mod planner;
 mod reading;
 mod runs;
 mod scanning;
+mod testing;
 mod writing;
 
+pub use any_deal::{AnyDeal, Condition};
 pub use caller::Caller;
 pub use deal::is_passed_over;
 pub use inserting::link_behind;
 pub use merger::{MergeStage, Merging};
 pub use place::{Place, Stage};
 pub use planner::{AsCalled, PlanError, Planner};
+pub use testing::{Reading, found_by};

@@ -1,4 +1,5 @@
 //! Where a seat stands in a call.
+use crate::any_deal::AnyDeal;
 use clsm_law::Layout;
 use clsm_model::{Deal, Time, Value};
 
@@ -23,6 +24,8 @@ pub enum Stage {
     Draw,
     /// The times of a batch are found: those from the clock on.
     Times,
+    /// The conditions of a batch are tested, and the read ends with no record.
+    Test,
     /// Its cell is filled and linked; the cell of a batch's member is taken with its key.
     Fill,
     Link,
@@ -53,6 +56,8 @@ pub struct Place {
     pub old: Option<Value>,
     /// The time that is written.
     pub drawn: Option<Time>,
+    /// The limit that a batch with conditions found in its hold.
+    pub limit: Time,
 }
 
 /// What a part of a call is played by: the sizes, the call, and the time of the seat's open
@@ -60,7 +65,7 @@ pub struct Place {
 #[derive(Clone, Copy)]
 pub(crate) struct Setting<'a> {
     pub(crate) layout: &'a Layout,
-    pub(crate) deal: &'a Deal,
+    pub(crate) deal: &'a AnyDeal,
     pub(crate) snapshot: Option<Time>,
 }
 
@@ -73,14 +78,17 @@ impl Place {
             time: 0,
             old: None,
             drawn: None,
+            limit: 0,
         }
     }
 
     /// The beginning of the call.
-    pub(crate) fn first(deal: &Deal) -> Place {
+    pub(crate) fn first(deal: &AnyDeal) -> Place {
         let stage = match deal {
-            Deal::Close => Stage::Close,
-            Deal::Get { .. } | Deal::GetAt { .. } | Deal::Snap | Deal::Scan { .. } => Stage::Begin,
+            AnyDeal::Plain(Deal::Close) => Stage::Close,
+            AnyDeal::Plain(
+                Deal::Get { .. } | Deal::GetAt { .. } | Deal::Snap | Deal::Scan { .. },
+            ) => Stage::Begin,
             _ => Stage::Enter,
         };
         Place::new(stage)

@@ -1,9 +1,12 @@
 //! Which steps the parts of calls make: what a planned step is held against.
 ghost use Rattle.std.specs.Prelude.{◌≡◌, IsTrue};
-ghost use Rattle.clsm_planner.specs.Planned.{AnswersRead, ClearsRegion, ClosesSnapshot, CommitsBatch, DecidesTime, DrawsClock, EndsRead, Enters, FillsCell};
-ghost use Rattle.clsm_planner.specs.Planned.{FindsTimes, FreezesEpoch, InsertsCell, IsNextIn, IsNextInMerge, IsStored, Leaves, LinksCell, LooksAt, NotesClock};
-ghost use Rattle.clsm_planner.specs.Planned.{Pins, SettlesTime, TakesAlone, TakesFloor, TakesShared, WritesRun, found_word};
+ghost use Rattle.clsm_planner.specs.Planned.{AnswersRead, ClearsRegion, ClosesSnapshot, CommitsBatch, DecidesTime};
+ghost use Rattle.clsm_planner.specs.Planned.{DrawsClock, EndsRead, Enters, FillsCell, FindsTimes, FreezesEpoch};
+ghost use Rattle.clsm_planner.specs.Planned.{InsertsCell, IsNextIn, IsNextInMerge, IsStored, Leaves, LinksCell, LooksAt};
+ghost use Rattle.clsm_planner.specs.Planned.{MayWriteIf, NotesClock, Pins, SettlesTime, TakesAlone, TakesFloor};
+ghost use Rattle.clsm_planner.specs.Planned.{TakesShared, TestsConditions, WritesRun, found_word};
 
+use crate::any_deal::AnyDeal;
 use crate::made::Found;
 use crate::merger::MergeStage;
 use crate::place::{Place, Stage};
@@ -63,20 +66,22 @@ fn takes_shared(found: &[Found], step: &Step) -> bool
     }
 }
 
-fn enters(deal: &Deal, found: &[Found], step: &Step) -> bool
+fn enters(deal: &AnyDeal, found: &[Found], step: &Step) -> bool
     ensures { IsTrue result → Enters deal.now found.now step.now }
 {
     match deal {
-        Deal::Batch { .. } => takes_alone(found, step),
+        AnyDeal::Plain(Deal::Batch { .. }) | AnyDeal::BatchIf { .. } => takes_alone(found, step),
         _ => takes_shared(found, step),
     }
 }
 
-fn leaves(deal: &Deal, found: &[Found], step: &Step) -> bool
+fn leaves(deal: &AnyDeal, found: &[Found], step: &Step) -> bool
     ensures { IsTrue result → Leaves deal.now found.now step.now }
 {
     match deal {
-        Deal::Batch { .. } => found.is_empty() && matches!(step, Step::LeaveExclusive),
+        AnyDeal::Plain(Deal::Batch { .. }) | AnyDeal::BatchIf { .. } => {
+            found.is_empty() && matches!(step, Step::LeaveExclusive)
+        }
         _ => found.is_empty() && matches!(step, Step::LeaveShared),
     }
 }
@@ -147,6 +152,27 @@ fn finds_times(found: &[Found], step: &Step) -> bool
     match found {
         [] => matches!(step, Step::Look(Word::Limit)),
         [_] => matches!(step, Step::Look(Word::Clock)),
+        _ => false,
+    }
+}
+
+/// Whether the call is a batch with conditions that has members.
+fn may_write(deal: &AnyDeal) -> bool
+    ensures { IsTrue result → MayWriteIf deal.now }
+{
+    match deal {
+        AnyDeal::BatchIf { members, .. } => !members.is_empty(),
+        AnyDeal::Plain(_) => false,
+    }
+}
+
+fn tests_conditions(deal: &AnyDeal, step: &Step) -> bool
+    ensures { IsTrue result → TestsConditions deal.now step.now }
+{
+    match step {
+        Step::Look(word) => is_stored(word),
+        Step::Unpin(End::Neither) => may_write(deal),
+        Step::Unpin(End::Meeting) => true,
         _ => false,
     }
 }
@@ -229,7 +255,7 @@ fn closes_snapshot(found: &[Found], step: &Step) -> bool
 }
 
 /// Whether the step comes next in this part of the call.
-pub(crate) fn is_next_in(deal: &Deal, place: &Place, found: &[Found], step: &Step) -> bool
+pub(crate) fn is_next_in(deal: &AnyDeal, place: &Place, found: &[Found], step: &Step) -> bool
     ensures { IsTrue result → IsNextIn place.now.stage deal.now place.now found.now step.now }
 {
     match place.stage {
@@ -242,6 +268,7 @@ pub(crate) fn is_next_in(deal: &Deal, place: &Place, found: &[Found], step: &Ste
         Stage::Answer => answers_read(step),
         Stage::Draw => draws_clock(found, step),
         Stage::Times => finds_times(found, step),
+        Stage::Test => tests_conditions(deal, step),
         Stage::Fill => fills_cell(place.drawn, found, step),
         Stage::Link => links_cell(found, step),
         Stage::Insert(_) => inserts_cell(step),

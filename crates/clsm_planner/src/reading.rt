@@ -1,6 +1,7 @@
 //! The parts of reads.
+use crate::any_deal::AnyDeal;
 use crate::cells::{Span, is_written_in, newest, settle, value_at};
-use crate::deal::{is_change, key_of};
+use crate::deal::{is_batch_if, is_change, key_of};
 use crate::made::{Made, Stop};
 use crate::place::{Place, Setting, Stage};
 use crate::runs::search;
@@ -11,7 +12,7 @@ use std::alloc::Global;
 
 /// The value of the key below the time: by the cells of the component's epochs, and else by its
 /// runs.
-fn value_below(
+pub(crate) fn value_below(
     made: &mut Made,
     layout: &Layout,
     component: u64,
@@ -28,19 +29,19 @@ fn value_below(
 }
 
 /// What the call makes of the old value.
-fn change_of(deal: &Deal, old: Option<&Value>) -> Change {
+fn change_of(deal: &AnyDeal, old: Option<&Value>) -> Change {
     match deal {
-        Deal::Claim { value, .. } => put_if_absent(old.copied(), *value),
-        Deal::Add { by, .. } => added(old.copied(), *by),
+        AnyDeal::Plain(Deal::Claim { value, .. }) => put_if_absent(old.copied(), *value),
+        AnyDeal::Plain(Deal::Add { by, .. }) => added(old.copied(), *by),
         _ => Change::Keep,
     }
 }
 
 /// The deed of a read of one key that found this.
-fn read_of(deal: &Deal, reply: Option<Value>) -> Deed {
+fn read_of(deal: &AnyDeal, reply: Option<Value>) -> Deed {
     let key = key_of(deal);
     match deal {
-        Deal::GetAt { .. } => Deed::GetAt { key, reply },
+        AnyDeal::Plain(Deal::GetAt { .. }) => Deed::GetAt { key, reply },
         _ => Deed::Get { key, reply },
     }
 }
@@ -57,8 +58,11 @@ impl Place {
         made.step(Step::Pin)?;
         let component = made.look(Word::Merged)?;
         let (stage, time) = match (setting.deal, setting.snapshot) {
-            (Deal::GetAt { .. } | Deal::Scan { .. }, Some(time)) => (Stage::Answer, time),
-            (Deal::Snap, _) => (Stage::Note, 0),
+            (AnyDeal::Plain(Deal::GetAt { .. } | Deal::Scan { .. }), Some(time)) => {
+                (Stage::Answer, time)
+            }
+            (AnyDeal::Plain(Deal::Snap), _) => (Stage::Note, 0),
+            (AnyDeal::BatchIf { .. }, _) => (Stage::Times, 0),
             _ => (Stage::ReadClock, 0),
         };
         Ok(Place {
@@ -114,6 +118,7 @@ impl Place {
         }
         made.step(Step::RaiseFront(until))?;
         match self.drawn {
+            None if is_batch_if(setting.deal) => Ok(self.at(Stage::Test)),
             None => Ok(self.at(Stage::Answer)),
             Some(drawn) => self.compare(made, setting, drawn),
         }
@@ -149,9 +154,10 @@ impl Place {
         alloc: Global,
         setting: &Setting,
     ) -> Result<Place, Stop> {
-        match *setting.deal {
-            Deal::Snap => record(made, Deed::Snapshot)?,
-            Deal::Scan { lo, hi } => {
+        match setting.deal {
+            AnyDeal::Plain(Deal::Snap) => record(made, Deed::Snapshot)?,
+            AnyDeal::Plain(Deal::Scan { lo, hi }) => {
+                let (lo, hi) = (*lo, *hi);
                 let rows = rows_below(made, alloc, setting.layout, self, &Keys { lo, hi })?;
                 record(made, Deed::Scan { lo, hi, rows })?;
             }
@@ -172,7 +178,7 @@ impl Place {
     }
 
     /// A change that keeps what it read ends its read with the record; another goes on to draw.
-    fn change(&self, made: &mut Made, deal: &Deal, old: Option<Value>) -> Result<Place, Stop> {
+    fn change(&self, made: &mut Made, deal: &AnyDeal, old: Option<Value>) -> Result<Place, Stop> {
         let key = key_of(deal);
         if change_of(deal, old.as_ref()) == Change::Keep {
             let change = Change::Keep;
@@ -188,7 +194,7 @@ impl Place {
     }
 
     /// The key that the call is about, or the member of a batch that is written.
-    pub(crate) fn key_of(&self, deal: &Deal) -> u64 {
+    pub(crate) fn key_of(&self, deal: &AnyDeal) -> u64 {
         match self.member(deal) {
             Some((key, _)) => key,
             None => key_of(deal),
@@ -196,7 +202,7 @@ impl Place {
     }
 
     /// What is written, as a record of one write says it.
-    pub(crate) fn deed_of(&self, deal: &Deal) -> Deed {
+    pub(crate) fn deed_of(&self, deal: &AnyDeal) -> Deed {
         let key = self.key_of(deal);
         if is_change(deal) {
             let change = change_of(deal, self.old.as_ref());
@@ -210,10 +216,12 @@ impl Place {
     }
 
     /// The value that is written; none where it is a removal.
-    pub(crate) fn value_of(&self, deal: &Deal) -> Option<Value> {
+    pub(crate) fn value_of(&self, deal: &AnyDeal) -> Option<Value> {
         let change = match deal {
-            Deal::Put { value, .. } => Change::Set(*value),
-            Deal::Add { .. } | Deal::Claim { .. } => change_of(deal, self.old.as_ref()),
+            AnyDeal::Plain(Deal::Put { value, .. }) => Change::Set(*value),
+            AnyDeal::Plain(Deal::Add { .. } | Deal::Claim { .. }) => {
+                change_of(deal, self.old.as_ref())
+            }
             _ => self.member(deal).map_or(Change::Remove, |member| member.1),
         };
         match change {

@@ -30,7 +30,7 @@ impl Place {
     /// again. A batch takes it alone.
     pub(crate) fn enter(&self, made: &mut Made, setting: &Setting) -> Result<Place, Stop> {
         if is_batch(setting.deal) {
-            return self.enter_alone(made);
+            return self.enter_alone(made, setting);
         }
         let holders = made.look(Word::Lock)?;
         if holders >= EXCLUSIVE_HOLD || !made.wins(Step::EnterShared(holders))? {
@@ -99,7 +99,7 @@ impl Place {
         let deed: Deed = self.deed_of(setting.deal);
         let is_won = made.wins(Step::Decide(time, deed))?;
         if is_batch(setting.deal) {
-            return Ok(self.after_member());
+            return Ok(self.after_member(setting.deal));
         }
         Ok(match (is_change, is_won) {
             (true, true) => Place::new(Stage::Unpin),

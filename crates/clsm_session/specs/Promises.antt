@@ -1,7 +1,7 @@
--- What each call of a session's caller promises, all of it, once. Its reads, and how it tells and
--- hears, promise what the store's do, by the records of `Promises.antt` of clsm_store. Here is what
--- it promises otherwise: its writes wait until there is room for them. `old` is the seat as the
--- call found it, `new` as it left it, and `result` what it answered.
+-- What each call of a session's caller promises, all of it, once. Its reads, `try_batch_if`, and how
+-- it tells and hears, promise what the store's do, by the records of `Promises.antt` of clsm_store.
+-- Here is what it promises otherwise: its writes wait until there is room for them. `old` is the
+-- seat as the call found it, `new` as it left it, and `result` what it answered.
 use Rattle.std.specs.Prelude.{ℕ, List, Option, Result, IfErr, IfOk}
 use Rattle.clsm_model.specs.declared.record.Deed.{Deed}
 use Rattle.clsm_model.specs.declared.record.Deed.TheVariants.{Batch, Rmw as ChangeOf}

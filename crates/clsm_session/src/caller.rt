@@ -3,7 +3,8 @@ ghost use Rattle.std.specs.Prelude.{◌≡◌, length, map};
 ghost use Rattle.clsm_model.specs.declared.record.Deed.TheVariants.{Put, Remove};
 ghost use Rattle.clsm_model.specs.Changes.{Adds, PutsIfAbsent};
 ghost use Rattle.clsm_store.specs.Promises.{ClosesSnapshot, CountsRange, FillsPage, Gets, GetsAtIfOpen, GivesNextPage, GivesPage, Hears, OpensSnapshot};
-ghost use Rattle.clsm_store.specs.Promises.{FillsPageDown, GetsMany, GetsManyAtIfOpen, Scans, ScansAnew, Tells, VisitsRange};
+ghost use Rattle.clsm_store.specs.Promises.{FillsPageDown, FindsFirst, FindsLast, GetsMany, GetsManyAtIfOpen, Scans, ScansAnew, Tells};
+ghost use Rattle.clsm_store.specs.Promises.{TriesToWriteBatchIf, VisitsRange};
 ghost use Rattle.clsm_session.specs.Places.{HasPlace};
 ghost use Rattle.clsm_session.specs.Promises.{WaitsToChangeBy, WaitsToPlay, WaitsToWrite, WaitsToWriteBatch, WaitsToWriteBatchIf};
 
@@ -13,8 +14,9 @@ use crate::refusal::{BatchIfRefused, BatchRefused, Refused};
 use crate::{conditional, writing};
 use clsm_model::Key;
 use clsm_store::{
-    Answer, Call, Caller, Change, Condition, Counted, Filled, Free, Got, Keyed, Memory, Message,
-    Open, Page, Pages, Rmw, Row, Scan, Seat, Time, Value, ValuePlace, added, put_if_absent,
+    Answer, Call, Caller, Change, Condition, Counted, Filled, FoundRow, Free, Got, Keyed, Memory,
+    Message, Open, Page, Pages, Rmw, Row, Scan, Seat, Time, TryBatchIfError, Value, ValuePlace,
+    added, put_if_absent,
 };
 use std::alloc::Global;
 use std::marker::{Model, PhantomData};
@@ -155,6 +157,19 @@ impl<'a, R: Wait, P: Place> SessionCaller<'a, R, P> {
         conditional::batch_if(self.rt, self.board, &mut self.caller, conditions, members)
     }
 
+    /// Writes all members as one batch if each condition holds, as `Store::try_batch_if`: it tries
+    /// the lock once, and never waits. Where the epoch is full it is refused, and the merger is not
+    /// called.
+    pub fn try_batch_if(
+        &mut self,
+        conditions: &[Condition],
+        members: &[(u64, Change)],
+    ) -> Result<Time, TryBatchIfError>
+        ensures { TriesToWriteBatchIf self.old self.new conditions.now members.now result }
+    {
+        self.caller.try_batch_if(conditions, members)
+    }
+
     /// As `Store::get`.
     #[inline(always)]
     pub fn get(&mut self, key: Key) -> Got
@@ -233,6 +248,20 @@ impl<'a, R: Wait, P: Place> SessionCaller<'a, R, P> {
         ensures { FillsPageDown T.pair T.is_row self.old self.new lo hi rows.old rows.new result }
     {
         self.caller.page_down_into(self.alloc, lo, hi, rows)
+    }
+
+    /// As `Store::first`.
+    pub fn first(&mut self, lo: Key, hi: Key) -> FoundRow
+        ensures { FindsFirst self.old self.new lo hi result }
+    {
+        self.caller.first(lo, hi)
+    }
+
+    /// As `Store::last`.
+    pub fn last(&mut self, lo: Key, hi: Key) -> FoundRow
+        ensures { FindsLast self.old self.new lo hi result }
+    {
+        self.caller.last(self.alloc, lo, hi)
     }
 
     /// As `Caller::next_page`.

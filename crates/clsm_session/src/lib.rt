@@ -15,8 +15,9 @@ mod writing;
 
 pub use caller::SessionCaller;
 pub use clsm_store::{
-    Answer, Call, Caller, Change, Condition, Config, Counted, Filled, Got, Memory, Message, Open,
-    OpenError, Page, Pages, Rmw, Row, Rows, Scan, Seat, Sink, Store, Time, Value,
+    Answer, Call, Caller, Change, Condition, Config, Counted, Filled, FoundRow, Got, Memory,
+    Message, Open, OpenError, Page, Pages, Rmw, Row, Rows, Scan, Seat, Sink, Store, Time,
+    TryBatchIfError, Value,
 };
 pub use job::{Job, Place};
 pub use refusal::{BatchIfRefused, BatchRefused, Refused, SessionError};

@@ -6,3 +6,4 @@ mod Joint
 mod SweepParts
 mod Visits
 mod PagesDown
+mod FoundRows

@@ -1,4 +1,5 @@
 pub mod Changes
+pub mod Ends
 pub mod Freezing
 pub mod Headline
 pub mod Meetings

@@ -5,7 +5,7 @@
 -- as many places as keys, `rmw` and `visit` for a function that may be called with any value, `hear`
 -- for a message of the store. At the end stand the merger's calls: each asks for its store's token
 -- in one phase, `old`, and hands one back.
-use Rattle.std.specs.Prelude.{◌≡◌, ℕ, ◌+◌, ◌*◌, ◌^◌, ◌<◌, ◌≤◌, List, drop, length, map, replicate, take}
+use Rattle.std.specs.Prelude.{◌≡◌, ℕ, ◌+◌, ◌*◌, ◌^◌, ◌<◌, ◌≤◌, List, [], drop, length, map, option_to_list, replicate, take}
 use Rattle.std.specs.Prelude.{Option, None, Some, IfNone, IfSome, MatchOption, Result, IfErr, IfOk, slice_get}
 use Rattle.clsm_law.specs.Merging.{unseen}
 use Rattle.clsm_levels.specs.Cursors.{row_at}
@@ -51,11 +51,13 @@ use Rattle.clsm_store_calls.specs.Seats.{Answers, GivesUpForWrites, IsFull, IsSa
 use Rattle.clsm_store_calls.specs.Seats.{CleanState, FrozenState, RetiredState}
 use Rattle.clsm_store_calls.specs.Tally.{CancelsNone, CountsTry, TakesLockOnce, TakesNoLock}
 use Rattle.clsm_store_calls.specs.Writing.{RefusesTry}
+use Rattle.clsm_store.specs.declared.ends.FoundRow.{FoundRow}
 use Rattle.clsm_store.specs.declared.pages.Pages.{Pages}
 use Rattle.clsm_store.specs.declared.phase.TryFreezeError.{TryFreezeError}
 use Rattle.clsm_store.specs.declared.phase.TryFreezeError.TheVariants.{Busy, Worn as WornToo}
 use Rattle.clsm_store.specs.declared.play.answer.Answer.{Answer}
 use Rattle.clsm_store.specs.declared.play.call.Call.{Call}
+use Rattle.clsm_store.specs.Ends.{HasNoRow, IsFirst, IsLast}
 use Rattle.clsm_store.specs.Meetings.{IsUnrecorded, Meets, told_by}
 use Rattle.clsm_store.specs.Paging.{ReadsNext}
 use Rattle.clsm_store.specs.Play.{CountsCall, PlaysCall, ReadsAtClock, WantsMemory}
@@ -327,6 +329,34 @@ pub record FillsPageDown {R : Type 0} (pair : R → Pair) (IsRow : R → Type 0)
   pub filled : AreFilled IsRow after result.rows
   -- as page_into
   pub rest : drop result.rows after ≡ drop result.rows before
+
+-- first
+pub record FindsFirst (old new : SeatState) (lo hi : ℕ) (result : FoundRow) : Type 0 where
+  -- recorded as a page of one row, and of the key of the next; or of none
+  pub more : Option ℕ
+  pub answers : Answers old new result.time (page_deed lo hi 1 (option_to_list result.row) more)
+  -- the row is the first of the range at this time; or no key of it has a value
+  pub row : MatchOption result.row (HasNoRow (known_by new) result.time lo hi) (IsFirst (known_by new) result.time lo hi)
+  -- it knows all below the time
+  pub reached : result.time ≤ end_of (known_by new)
+  -- as scan
+  pub clock : IsAtClock old new result.time
+  -- as get
+  pub lock : TakesNoLock old.tally new.tally
+
+-- last
+pub record FindsLast (old new : SeatState) (lo hi : ℕ) (result : FoundRow) : Type 0 where
+  -- recorded as count: as a page of no rows, and of the range's first key
+  pub first : Option ℕ
+  pub answers : Answers old new result.time (page_deed lo hi 0 [] first)
+  -- the row is the last of the range at this time; or no key of it has a value
+  pub row : MatchOption result.row (HasNoRow (known_by new) result.time lo hi) (IsLast (known_by new) result.time lo hi)
+  -- as first
+  pub reached : result.time ≤ end_of (known_by new)
+  -- as scan
+  pub clock : IsAtClock old new result.time
+  -- as get
+  pub lock : TakesNoLock old.tally new.tally
 
 -- ---- how seats come to know of one another
 

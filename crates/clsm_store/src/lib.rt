@@ -7,6 +7,7 @@ mod calls;
 mod changes;
 mod conditional;
 mod downwards;
+mod ends;
 mod freezing;
 mod gets;
 mod many;
@@ -38,6 +39,7 @@ pub use clsm_store_calls::{
     Rmw, Scan, TryBatchError, TryBatchIfError, TryPutError, ValuePlace, Worn,
 };
 pub use clsm_words::{Free, Kind, Pace};
+pub use ends::FoundRow;
 pub use freezing::TryFroze;
 pub use merger::{Clean, Frozen, Merger, Retired};
 pub use messages::Message;

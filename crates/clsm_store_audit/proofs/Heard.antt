@@ -1,5 +1,5 @@
 -- What a message tells of a put, as far as the history goes on, and what a get then finds.
-use Rattle.std.proofs.Common.{◌≡◌, ◌≢◌, ℕ, zero, suc, ◌+◌, ◌<◌, ◌≤◌, ◌==◌, ◌⊎◌, inl, inr, Bool, true, false, cond, List, [], ◌∷◌, length, get_or, Option, Some}
+use Rattle.std.proofs.Common.{◌≡◌, ◌≢◌, ℕ, zero, suc, ◌<◌, ◌==◌, ◌⊎◌, inl, inr, Bool, true, false, cond, List, [], ◌∷◌, length, get_or, Option, Some}
 use Rattle.std.proofs.Common.{None}
 use Rattle.std.proofs.Common.{refl, sym, ap, ◌∙◌, subst, arith, add-one, ⊎_elim, lt_of_not-le}
 use Rattle.std.specs.List.{AllByRecursion}
@@ -25,11 +25,11 @@ use Rattle.clsm_store_audit.proofs.Raced.{put_stands}
 -- ---- as the history goes on
 
 -- a beginning and what it begins have the same slots as far as the first reaches
-same_slot : (a b : List Slot) → IsPrefix a b → (t : ℕ) → t < length a → get_or b t Nothing ≡ get_or a t Nothing
+pub same_slot : (a b : List Slot) → IsPrefix a b → (t : ℕ) → t < length a → get_or b t Nothing ≡ get_or a t Nothing
 same_slot a b begins t lt = ap (λ (l : List Slot). get_or l t Nothing) (sym begins.1) ∙ get_or_append_left a begins.0 Nothing t lt
 
 -- a write stands below the end
-within : (h : History) (t seat key : ℕ) (written : Option (List ℕ)) → slot_at h t ≡ Wrote seat key written → t < end_of h
+pub within : (h : History) (t seat key : ℕ) (written : Option (List ℕ)) → slot_at h t ≡ Wrote seat key written → t < end_of h
 within h t seat key written is = elim (dec_le (end_of h) t) [
   | yes past ↦ absurd (let e : Nothing ≡ Wrote seat key written = sym (get_or_past h.slots t Nothing past) ∙ is in cc)
   | no inside ↦ lt_of_not-le inside

@@ -3,6 +3,8 @@ pub mod Places
 pub mod Whole
 pub mod Checked
 pub mod Popped
+pub mod Both
 pub mod Raced
 pub mod Heard
 pub mod CountedCalls
+pub mod Skewed

@@ -1,11 +1,10 @@
 -- One put and one get are all the calls of their seats: what the settled history says of them.
-use Rattle.std.proofs.Common.{◌≡◌, ◌≢◌, ℕ, zero, suc, ◌<◌, ◌==◌, ◌⊎◌, inl, inr, Bool, true, false, cond, List, [], ◌∷◌, ◌++◌, length, get_or, Option, Some}
+use Rattle.std.proofs.Common.{◌≡◌, ◌≢◌, ℕ, zero, suc, ◌<◌, ◌==◌, ◌⊎◌, Bool, true, false, cond, List, [], ◌∷◌, ◌++◌, get_or, Option, Some}
 use Rattle.std.proofs.Common.{None}
 use Rattle.std.proofs.Common.{is_some, refl, sym, ap, ◌∙◌, subst, arith, add-one, nat_lt, ⊎_elim, lt-ltb, le-ltb, lt_of_not-le}
 use Rattle.std.specs.List.{AllByRecursion}
 use Rattle.std.proofs.lemmas.Bool.{cases_Bool, eq-eqb, eqb-true}
-use Rattle.std.proofs.lemmas.List.{get_or_past, get_or_default}
-use Rattle.std.proofs.lemmas.List.Elements.{All-get_or}
+use Rattle.std.proofs.lemmas.List.{get_or_past}
 use mathlib.Core.Logic.{dite}
 use native.Mathlib.Decide.{ℕ_discrete, dec_le}
 use Rattle.clsm_model.specs.declared.slot.Slot.{Slot}
@@ -16,14 +15,14 @@ use Rattle.clsm_model.specs.declared.record.CallRecord.{CallRecord}
 use Rattle.clsm_model.specs.History.{History, IsBeginning, end_of, value}
 use Rattle.clsm_model.specs.Map.{value_after}
 use Rattle.clsm_model.specs.Seats.{AreCallsIn, HasEachWrite, IsRecordIn, StandsAs}
-use Rattle.clsm_model.proofs.Batches.{begins_trans}
 use Rattle.clsm_model.proofs.Maps.{value-next}
 use Rattle.clsm_law.specs.Relation.{call_of}
 use Rattle.clsm_store_calls.specs.Seats.{Answers, SeatState, StoreId, known_by}
-use Rattle.clsm_store.specs.Headline.{HasAllSeats, IsAt, IsSeatIn, IsWholeHistory, longest_past}
-use Rattle.clsm_store.specs.Meetings.{AreMet, Meets}
+use Rattle.clsm_store.specs.Headline.{HasAllSeats, IsWholeHistory, longest_past}
+use Rattle.clsm_store.specs.Meetings.{AreMet}
 use Rattle.clsm_store_audit.specs.Race.{left_by_put}
 use Rattle.clsm_store_audit.specs.Told.{HasMade}
+use Rattle.clsm_store_audit.proofs.Both.{IsOfBoth, settled_both}
 
 -- ---- a history whose only write is a put
 
@@ -120,73 +119,29 @@ made store n old new t deed of number none a = record {
 }
 
 module _ (store : StoreId) (two : store.layout.seats ≡ 2) (writer reader : SeatState) (key key' put at : ℕ) (v : List ℕ) (reply : Option (List ℕ))
-    (wrote : HasMade store 0 (call_of 0 put (Put key v) ∷ []) writer) (read : HasMade store 1 (call_of 1 at (Get key' reply) ∷ []) reader) where
-  abbrev pub both : List SeatState
-  both = writer ∷ reader ∷ []
+    (wrote : HasMade store 0 (call_of 0 put (Put key v) ∷ []) writer) (read : HasMade store 1 (call_of 1 at (Get key' reply) ∷ []) reader)
+    (settled : List SeatState) (met : AreMet (writer ∷ reader ∷ []) settled)
+    (whole : HasAllSeats store (writer ∷ reader ∷ []) → IsWholeHistory settled (longest_past settled)) where
+  abbrev h : History
+  h = longest_past settled
 
-  all_seats : HasAllSeats store both
-  all_seats zero lt = (0, writer, (omega arith, refl), wrote.numbered)
-  all_seats (suc zero) lt = (1, reader, (omega arith, refl), read.numbered)
-  all_seats (suc (suc n)) lt = absurd (omega arith)
+  both : IsOfBoth h writer reader (call_of 0 put (Put key v) ∷ []) (call_of 1 at (Get key' reply) ∷ [])
+  both = settled_both store two writer reader (call_of 0 put (Put key v) ∷ []) (call_of 1 at (Get key' reply) ∷ []) wrote read settled met whole
 
-  module _ (settled : List SeatState) (met : AreMet both settled) (whole : HasAllSeats store both → IsWholeHistory settled (longest_past settled)) where
-    abbrev pub h : History
-    h = longest_past settled
+  -- the get answered what the put leaves below the get's time
+  pub answered : key' ≡ key → reply ≡ left_by_put v put at
+  answered = reply_is h key key' put at v reply both.first.due both.second.due both.first.snapshot both.second.snapshot both.first.calls_in
+      both.second.calls_in both.theirs
 
-    abbrev now : ℕ → SeatState
-    now i = get_or settled i writer
+  -- what the reader knew is a beginning of the history
+  pub reader_begins : IsBeginning (known_by reader) h
+  reader_begins = both.second.begins
 
-    there : (i : ℕ) → i < 2 → IsAt settled i (now i)
-    there i lt = let inside : i < length settled = (let c = met.count in omega arith) in (inside, get_or_default settled i (now i) writer inside)
+  -- the put stands in it, and no other write
+  pub put_is : get_or h.slots put Nothing ≡ Wrote 0 key (Some v)
+  put_is = stands h key key' put at v reply both.first.due both.second.due both.first.snapshot both.second.snapshot both.first.calls_in
+      both.second.calls_in both.theirs
 
-    is : IsWholeHistory settled h
-    is = whole all_seats
-
-    part : (i : ℕ) → i < 2 → IsSeatIn h (now i)
-    part i lt = All-get_or (IsSeatIn h) settled i writer (there i lt).0 is.joint.parts
-
-    meets : (i : ℕ) (s : SeatState) → i < 2 → IsAt both i s → Meets writer.due s (now i)
-    meets i s lt at = met.each i 0 s (now i) writer at (there i lt) (omega arith, refl)
-
-    writer_meets : Meets writer.due writer (now 0)
-    writer_meets = meets 0 writer (omega arith) (omega arith, refl)
-
-    reader_meets : Meets writer.due reader (now 1)
-    reader_meets = meets 1 reader (omega arith) (omega arith, refl)
-
-    number0 : (now 0).number ≡ 0
-    number0 = writer_meets.read.same.number ∙ wrote.numbered
-
-    number1 : (now 1).number ≡ 1
-    number1 = reader_meets.read.same.number ∙ read.numbered
-
-    puts : AreCallsIn h 0 (call_of 0 put (Put key v) ∷ []) (now 0).due (now 0).snapshot
-    puts = subst (λ (z : ℕ × List CallRecord). AreCallsIn h z.0 z.1 (now 0).due (now 0).snapshot)
-        (λ k. (number0 k, (writer_meets.read.calls ∙ wrote.called) k)) (part 0 (omega arith)).part
-
-    gets : AreCallsIn h 1 (call_of 1 at (Get key' reply) ∷ []) (now 1).due (now 1).snapshot
-    gets = subst (λ (z : ℕ × List CallRecord). AreCallsIn h z.0 z.1 (now 1).due (now 1).snapshot)
-        (λ k. (number1 k, (reader_meets.read.calls ∙ read.called) k)) (part 1 (omega arith)).part
-
-    numbered : (n i : ℕ) (s : SeatState) → IsAt settled i s → s.number ≡ n → (n ≡ 0) ⊎ (n ≡ 1)
-    numbered n zero s a e = inl (sym e ∙ ap (λ (z : SeatState). z.number) (sym a.1 ∙ get_or_default settled 0 s writer a.0) ∙ number0)
-    numbered n (suc zero) s a e = inr (sym e ∙ ap (λ (z : SeatState). z.number) (sym a.1 ∙ get_or_default settled 1 s writer a.0) ∙ number1)
-    numbered n (suc (suc i)) s a e = absurd (let b = a.0 in let c = met.count in omega arith)
-
-    theirs : (t n k : ℕ) (written : Option (List ℕ)) → t < end_of h → get_or h.slots t Nothing ≡ Wrote n k written → (n ≡ 0) ⊎ (n ≡ 1)
-    theirs t n k written lt e = let a = is.theirs t n k written lt e in numbered n a.0 a.1 a.2 a.3
-
-    -- the get answered what the put leaves below the get's time
-    pub answered : key' ≡ key → reply ≡ left_by_put v put at
-    answered = reply_is h key key' put at v reply (now 0).due (now 1).due (now 0).snapshot (now 1).snapshot puts gets theirs
-
-    -- what the reader knew is a beginning of the history
-    pub reader_begins : IsBeginning (known_by reader) h
-    reader_begins = begins_trans (known_by reader) (known_by (now 1)) h reader_meets.read.same.longer (part 1 (omega arith)).begins
-
-    -- the put stands in it, and no other write
-    pub put_is : get_or h.slots put Nothing ≡ Wrote 0 key (Some v)
-    put_is = stands h key key' put at v reply (now 0).due (now 1).due (now 0).snapshot (now 1).snapshot puts gets theirs
-
-    pub put_alone : (t n k : ℕ) (written : Option (List ℕ)) → t < end_of h → get_or h.slots t Nothing ≡ Wrote n k written → t ≡ put
-    put_alone = alone h key key' put at v reply (now 0).due (now 1).due (now 0).snapshot (now 1).snapshot puts gets theirs
+  pub put_alone : (t n k : ℕ) (written : Option (List ℕ)) → t < end_of h → get_or h.slots t Nothing ≡ Wrote n k written → t ≡ put
+  put_alone = alone h key key' put at v reply both.first.due both.second.due both.first.snapshot both.second.snapshot both.first.calls_in
+      both.second.calls_in both.theirs

@@ -1,3 +1,4 @@
 pub mod Settled
 pub mod Race
 pub mod Told
+pub mod Skew

@@ -19,12 +19,14 @@ use std::alloc::Global;
 mod lawful;
 mod pair;
 mod race;
+mod skew;
 mod told;
 mod visited;
 
 pub use lawful::{are_lawful_alone, settle_lawful};
 pub use pair::Write;
 pub use race::race_agrees;
+pub use skew::{Crossing, Outcome, skew_is_refused};
 pub use told::{Home, news_is_found};
 pub use visited::count_calls;
 

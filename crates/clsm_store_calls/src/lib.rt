@@ -11,6 +11,7 @@ mod downwards;
 mod flooring;
 mod freezing;
 mod got;
+mod loading;
 mod looking;
 mod many;
 mod meeting;

@@ -7,6 +7,7 @@ ghost use Rattle.clsm_store_calls.specs.Many.{HoldValues, ReadsFirst, ReadsFirst
 ghost use Rattle.clsm_store_calls.specs.{Reading.MayReadBelow, Resting.RestsAt};
 
 use crate::got::Got;
+use crate::loading::{GROUP, load_ahead};
 use crate::meeting::meet_at;
 use crate::places::{Keyed, ValuePlace};
 use crate::reading::{begin, end_of, value_left};
@@ -35,6 +36,9 @@ fn leave_others<P: Pace, K: Keyed, V: ValuePlace>(
     ensures values { HoldValues V.tells (plain seat.old.knows.past) point.until (map K.key keys.now) places.new }
 {
     for at in 1..keys.len() {
+        if at % GROUP == 0 {
+            load_ahead(words, seat, point.component, &keys[at..]);
+        }
         let mut value = None;
         value_left(words, seat, point, keys[at].key(), &mut value);
         places[at].take(&value);
@@ -60,6 +64,7 @@ fn leave_all<P: Pace, K: Keyed, V: ValuePlace>(
     ensures values { HoldValues V.tells (plain seat.old.knows.past) point.until (map K.key keys.now) places.new }
     ensures first { IfSome (slice_get (map K.key keys.now) 0) (λ key. result ≡ value (plain seat.old.knows.past) key point.until) }
 {
+    load_ahead(words, seat, point.component, keys);
     let mut first = None;
     value_left(words, seat, point, keys[0].key(), &mut first);
     places[0].take(&first);

@@ -1,13 +1,22 @@
 -- One worker more is gathered.
-use Rattle.std.proofs.Common.{◌≡◌, List, [], ◌∷◌, ◌++◌, map, sym, ap, ◌∙◌, append_assoc}
-use Rattle.std.proofs.lemmas.List.{flat_map_more}
+use Rattle.std.proofs.Common.{◌≡◌, List, [], ◌∷◌, ◌++◌, map, refl, sym, ap, ◌∙◌, append_assoc}
+use Rattle.std.specs.Prelude.{flat_map}
 use Rattle.clsm_model.specs.declared.record.CallRecord.{CallRecord}
 use Rattle.clsm_store_calls.specs.Seats.{SeatState}
-use Rattle.clsm_workload.specs.Calls.{all_calls}
 use Rattle.clsm_workload.specs.declared.worker.Worked.{Worked}
 
 abbrev pub seats_of : List Worked → List SeatState
 seats_of ws = map (λ (w : Worked). w.seat) ws
+
+abbrev pub parts_of : List Worked → List (List CallRecord)
+parts_of ws = map (λ (w : Worked). w.made.records.items) ws
+
+abbrev pub records_by : List Worked → List CallRecord
+records_by ws = flat_map (λ (w : Worked). w.made.records.items) ws
+
+pub joined_parts : (ws : List Worked) → records_by ws ≡ flat_map (λ (part : List CallRecord). part) (parts_of ws)
+joined_parts [] = refl
+joined_parts (w ∷ ws) = ap (λ (l : List CallRecord). w.made.records.items ++ l) (joined_parts ws)
 
 -- the seats so far and those to come stay the same
 pub gathers : (all all' : List SeatState) (w : Worked) (rest ws old : List Worked) → all' ≡ all ++ w.seat ∷ [] → rest ≡ w ∷ ws → all ++ seats_of rest
@@ -17,12 +26,10 @@ gathers all all' w rest ws old more is e =
     ∙ (append_assoc all (w.seat ∷ []) (seats_of ws)
     ∙ (ap (λ (x : List Worked). all ++ seats_of x) (sym is) ∙ e))
 
--- the records are the calls of one seat more
-pub gathers_calls : (seats seats' : List SeatState) (records records' : List CallRecord) (w : Worked) → seats' ≡ seats ++ w.seat ∷ [] → records'
-    ≡ records ++ w.made.records.items → records ≡ all_calls seats → w.seat.calls ≡ w.made.records.items → records' ≡ all_calls seats'
-gathers_calls seats seats' records records' w more longer e told =
-    longer
-    ∙ (ap (λ (x : List CallRecord). x ++ w.made.records.items) e
-    ∙ (ap (λ (x : List CallRecord). all_calls seats ++ x) (sym told)
-    ∙ (flat_map_more (λ (s : SeatState). s.calls) [] seats w.seat
-    ∙ ap all_calls (sym more))))
+-- and so the records
+pub gathers_records : (all all' : List CallRecord) (w : Worked) (rest ws old : List Worked) → all' ≡ all ++ w.made.records.items → rest ≡ w ∷ ws
+    → all ++ records_by rest ≡ records_by old → all' ++ records_by ws ≡ records_by old
+gathers_records all all' w rest ws old more is e =
+    ap (λ (x : List CallRecord). x ++ records_by ws) more
+    ∙ (append_assoc all w.made.records.items (records_by ws)
+    ∙ (ap (λ (x : List Worked). all ++ records_by x) (sym is) ∙ e))

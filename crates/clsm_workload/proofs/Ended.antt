@@ -1,6 +1,7 @@
 -- What the callers of a session made, and the seats that it hands back.
-use Rattle.std.proofs.Common.{◌≡◌, ℕ, suc, ◌<◌, List, [], ◌∷◌, length, get_or, map, Result, Ok, Err, IfErr, IfOk, IsOk, refl, sym, subst, ap, ◌∙◌, arith}
+use Rattle.std.proofs.Common.{◌≡◌, ℕ, suc, ◌<◌, List, [], ◌∷◌, length, get_or, map, Result, Ok, Err, IfErr, IfOk, IsOk, refl, sym, subst, ap, arith}
 use Rattle.std.proofs.lemmas.List.Elements.{All-cons, All-nil}
+use Rattle.std.specs.List.{AllZip}
 use Rattle.std.specs.Prelude.{All, vec_len}
 use Rattle.clsm_model.specs.declared.config.Config.{Config}
 use Rattle.clsm_store.specs.Headline.{IsAt, IsWholeHistory, longest_past}
@@ -13,7 +14,7 @@ use Rattle.clsm_workload.specs.Run.{AreMade, EndsSession, IsMade}
 use Rattle.clsm_workload.specs.declared.load.Load.{Load}
 use Rattle.clsm_workload.specs.declared.worker.Made.{Made}
 use Rattle.clsm_workload.specs.declared.worker.Worked.{Worked}
-use Rattle.clsm_workload.proofs.Brought.{seats_of}
+use Rattle.clsm_workload.proofs.Brought.{parts_of, seats_of}
 use Rattle.clsm_workload.proofs.Calls.{all_ended, by_newcomer, on_ok_map}
 
 abbrev pub made_of : List Worked → List Made
@@ -22,10 +23,9 @@ made_of ws = map (λ (w : Worked). w.made) ws
 -- what was made by a seat that was settled since
 made_by : (load : Load) (store : StoreId) (i : ℕ) (s : SeatState) (m : Made) → (s.store ≡ store) × (s.number ≡ i) → IsDone (Works load) store i s m
     → IsMade load s m
-made_by load store i s m here d = record {
-  records = d.settled.calls ∙ d.says.records;
-  all = on_ok_map m.ended (λ made. record { ended = d.ended; made = by_newcomer load store i s d.ended here made; settled = d.settled }) d.says.all;
-}
+made_by load store i s m here d =
+    on_ok_map m.ended (λ made. record { ended = d.ended; made = by_newcomer load store i s d.ended m.records.items here made; settled = d.settled })
+    d.says.all
 
 -- each seat with what was made by it, place by place
 are_made : (load : Load) (seats : List SeatState) (made : List Made) → length made ≡ length seats →
@@ -55,11 +55,8 @@ module _ (load : Load) (seats : List SeatState) (made : List Made) (are : AreMad
     joined : All (λ (w : Worked). IsMade load w.seat w.made) ws
     joined = each_made load ws (subst (AreMade load (seats_of ws)) (sym kept) (subst (λ (ss : List SeatState). AreMade load ss made) (sym same) are))
 
-    pub told : All (λ (w : Worked). w.seat.calls ≡ w.made.records.items) ws
-    told = λ i d lt. (joined i d lt).records
-
-    pub settled : All (λ (w : Worked). IsOk w.made.ended) ws → All (HasSettled load) seats
-    settled ended = subst (All (HasSettled load)) same (all_ended (HasSettled load) ws (λ i d lt. (joined i d lt).all) ended)
+    pub settled : All (λ (w : Worked). IsOk w.made.ended) ws → AllZip (HasSettled load) (seats_of ws) (parts_of ws)
+    settled ended = all_ended (HasSettled load) ws joined ended
 
 -- a session ends so, by its contract
 pub ends : (config : Config) (load : Load) (ended : Result (Ended Made) SessionError) → IfOk ended (λ e. HasSizes e.store config) →

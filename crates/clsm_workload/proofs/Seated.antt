@@ -1,13 +1,14 @@
--- The seats that workers give back are those of the store, in their order, and their calls are the
--- records.
+-- The seats that workers give back are those of the store, in their order, and their workers made
+-- the records.
 use Rattle.std.proofs.Common.{◌≡◌, ℕ, zero, suc, ◌<◌, List, [], ◌∷◌, length, get_or, IsOk, refl, sym, ap, ◌∙◌, arith}
 use Rattle.std.proofs.lemmas.List.{get_or_default, length-map}
+use Rattle.std.specs.List.{AllZip}
 use Rattle.std.specs.Prelude.{All}
 use Rattle.clsm_store_calls.specs.Seats.{StoreId, SeatState, AreNew, newcomer}
 use Rattle.clsm_workload.specs.Calls.{AreSeatsOf, AreWorked, HasMadeAll, IsWorked}
 use Rattle.clsm_workload.specs.declared.load.Load.{Load}
 use Rattle.clsm_workload.specs.declared.worker.Worked.{Worked}
-use Rattle.clsm_workload.proofs.Brought.{seats_of}
+use Rattle.clsm_workload.proofs.Brought.{parts_of, seats_of}
 use Rattle.clsm_workload.proofs.Calls.{all_ended, by_newcomer, on_ok_map}
 
 -- the worker whose seat stands at the place
@@ -27,14 +28,11 @@ module _ (store : StoreId) (count : ℕ) (seats : List SeatState) (new : AreNew 
         let inside : i < length seats = (let c = done.count in omega arith) in
         done.each i (newcomer store i) w inside (new.each i inside) e
 
-    pub told : All (λ (w : Worked). w.seat.calls ≡ w.made.records.items) worked
-    told = λ i d lt. (works i (get_or worked i d) lt (get_or_default worked i (get_or worked i d) d lt)).records
-
-    pub all_made : All (λ (w : Worked). IsOk w.made.ended) worked → All (HasMadeAll load) (seats_of worked)
+    pub all_made : All (λ (w : Worked). IsOk w.made.ended) worked → AllZip (HasMadeAll load) (seats_of worked) (parts_of worked)
     all_made ended = all_ended (HasMadeAll load) worked (λ i d lt.
         let w = get_or worked i d in
         let done_by : IsWorked load (newcomer store i) w = works i w lt (get_or_default worked i w d lt) in
-        on_ok_map w.made.ended (by_newcomer load store i w.seat w.seat (done_by.store, done_by.number)) done_by.all) ended
+        on_ok_map w.made.ended (by_newcomer load store i w.seat w.seat w.made.records.items (done_by.same.store, done_by.same.number)) done_by.all) ended
 
     pub are_seats : (gathered : List SeatState) → gathered ≡ seats_of worked → AreSeatsOf store count gathered
     are_seats gathered is = record {
@@ -43,5 +41,5 @@ module _ (store : StoreId) (count : ℕ) (seats : List SeatState) (new : AreNew 
           let inside : i < length worked = (let c = done.count in let n = new.counted in omega arith) in
           let m = mapped worked i s inside (ap (λ (l : List SeatState). get_or l i s) (sym is) ∙ e) in
           let w = works i m.0 inside m.1 in
-          (ap (λ (seat : SeatState). seat.store) (sym m.2) ∙ w.store, ap (λ (seat : SeatState). seat.number) (sym m.2) ∙ w.number);
+          (ap (λ (seat : SeatState). seat.store) (sym m.2) ∙ w.same.store, ap (λ (seat : SeatState). seat.number) (sym m.2) ∙ w.same.number);
     }

@@ -1,6 +1,7 @@
 -- What the audit of records answers.
-use Rattle.std.proofs.Common.{◌≡◌, arith, false, ℕ, List, Result, Ok, Err, IfErr, IfOk, IsOk, IsTrue, inl, inr, refl, sym, ◌∙◌, subst}
+use Rattle.std.proofs.Common.{◌≡◌, arith, false, ℕ, List, Result, Ok, Err, IfErr, IfOk, IsOk, inl, inr, refl, sym, ◌∙◌, subst}
 use Rattle.std.proofs.Math.Bool.{true≢false}
+use Rattle.std.specs.List.{AllZip}
 use Rattle.std.specs.Prelude.{All, ⊤, OnOk, Option}
 use Rattle.clsm_store_calls.specs.Seats.{HasSizes, SeatState, StoreId}
 use Rattle.clsm_store_audit.specs.Settled.{AreLawfulAlone}
@@ -16,11 +17,12 @@ use Rattle.clsm_model.specs.Config.{IsSound}
 use Rattle.clsm_text.specs.declared.failure.Failure.TheVariants.{BadLine, Device, Fault, Refused, Memory}
 use Rattle.clsm_text.specs.Failure.{status_of}
 use Rattle.clsm_workload.specs.Printed.{PrintsRun}
-use Rattle.clsm_workload.specs.Run.{EndsWell, FindsFault, IsAuditOf, IsRunOf, StopsCalls, StopsRun, StopsWork, ending_of}
+use Rattle.clsm_workload.specs.Run.{EndsWell, FindsFault, HasTakenAll, IsAuditOf, IsRunOf, StopsCalls, StopsRun, StopsWork, ending_of}
 use Rattle.clsm_workload.specs.declared.load.AskedRun.{AskedRun}
 use Rattle.clsm_workload.specs.declared.ran.Ran.{Ran}
 use Rattle.clsm_workload.specs.declared.worker.Worked.{Worked}
-use Rattle.clsm_workload.proofs.Brought.{seats_of}
+use Rattle.clsm_workload.proofs.Brought.{joined_parts, parts_of, seats_of}
+use Rattle.clsm_workload.proofs.Calls.{zip_map}
 
 pub verdict_is : (config : Config) (records : List CallRecord) (answer : Result ⊤ AuditError) →
     OnOk answer (IsLawful config records) → OnOk answer (IsOneHistory records) →
@@ -28,52 +30,82 @@ pub verdict_is : (config : Config) (records : List CallRecord) (answer : Result 
 verdict_is config records (Ok _) lawful history fault = (lawful, history)
 verdict_is config records (Err error) lawful history fault = fault
 
--- what was audited, where the seats of the workers are all those of the store
-pub audited_is : (config : Config) (store : StoreId) (worked : List Worked) (ran : Result Ran Failure) → AreSeatsOf store config.seats (seats_of worked) →
-    IfOk ran (IsAuditOf config worked) → IfOk ran (λ r. IsAudited config store r.seats.items r.records.items r.verdict)
-audited_is config store worked (Ok r) are audit = record {
-  seats_are = subst (AreSeatsOf store config.seats) (sym audit.seats) are;
-  records_are = audit.records;
-  verdict_is = audit.verdict;
-}
-audited_is config store worked (Err _) are audit = tt
+-- workers that all came to their end made their records so
+abbrev pub AllMade : (SeatState → List CallRecord → Type 0) → List Worked → Type 0
+AllMade Makes worked = All (λ (w : Worked). IsOk w.made.ended) worked → AllZip Makes (seats_of worked) (parts_of worked)
 
--- and where these seats are those that a session handed back
-pub audited_whole : (config : Config) (store : StoreId) → HasSizes store config → (seats : List SeatState) (worked : List Worked) (ran : Result Ran Failure) →
-    AreSeatsOf store config.seats seats → IsWholeHistory seats (longest_past seats) → seats_of worked ≡ seats → IfOk ran (IsAuditOf config worked) →
-    IfOk ran (λ r. IsAuditedWhole config r.seats.items r.records.items r.verdict)
-audited_whole config store sizes seats worked (Ok r) are whole is audit = record {
-  store = store;
-  sizes = sizes;
-  audited = audited_is config store worked (Ok r) (subst (AreSeatsOf store config.seats) (sym is) are) audit;
-  whole = subst (λ (ss : List SeatState). IsWholeHistory ss (longest_past ss)) (sym (audit.seats ∙ is)) whole;
-}
-audited_whole config store sizes seats worked (Err _) are whole is audit = tt
+module _ (Makes : SeatState → List CallRecord → Type 0) (config : Config) (store : StoreId) (worked : List Worked) where
+  audited_so : (r : Ran) → AreSeatsOf store config.seats (seats_of worked) → AllMade Makes worked → IsAuditOf config worked r
+      → IsAudited config store Makes r.seats.items r.records.items r.verdict
+  audited_so r are made audit = record {
+    seats_are = subst (AreSeatsOf store config.seats) (sym audit.seats) are;
+    made_by = record {
+      parts = parts_of worked;
+      each = subst (λ (ss : List SeatState). AllZip Makes ss (parts_of worked)) (sym audit.seats) (made audit.ended);
+      joined = audit.records ∙ joined_parts worked;
+    };
+    verdict_is = audit.verdict;
+  }
 
--- and what holds of each of these seats, where all workers came to their end
-pub all_of_ran : (P : SeatState → Type 0) (config : Config) (worked : List Worked) (ran : Result Ran Failure) →
-    (All (λ (w : Worked). IsOk w.made.ended) worked → All P (seats_of worked)) → IfOk ran (IsAuditOf config worked) → IfOk ran (λ r. All P r.seats.items)
-all_of_ran P config worked (Ok r) all audit = subst (All P) (sym audit.seats) (all audit.ended)
-all_of_ran P config worked (Err _) all audit = tt
+  -- what was audited, where the seats of the workers are all those of the store
+  pub audited_is : (ran : Result Ran Failure) → AreSeatsOf store config.seats (seats_of worked) → AllMade Makes worked → IfOk ran (IsAuditOf config worked)
+      → IfOk ran (λ r. IsAudited config store Makes r.seats.items r.records.items r.verdict)
+  audited_is (Ok r) are made audit = audited_so r are made audit
+  audited_is (Err _) are made audit = tt
+
+  -- and where these seats are those that a session handed back
+  pub audited_whole : HasSizes store config → (seats : List SeatState) (ran : Result Ran Failure) → AreSeatsOf store config.seats seats
+      → IsWholeHistory seats (longest_past seats) → seats_of worked ≡ seats → AllMade Makes worked → IfOk ran (IsAuditOf config worked)
+      → IfOk ran (λ r. IsAuditedWhole config Makes r.seats.items r.records.items r.verdict)
+  audited_whole sizes seats (Ok r) are whole is made audit = record {
+    store = store;
+    sizes = sizes;
+    audited = audited_so r (subst (AreSeatsOf store config.seats) (sym is) are) made audit;
+    whole = subst (λ (ss : List SeatState). IsWholeHistory ss (longest_past ss)) (sym (audit.seats ∙ is)) whole;
+  }
+  audited_whole sizes seats (Err _) are whole is made audit = tt
+
+-- what one made so, it made otherwise, too
+audited_as : (P Q : SeatState → List CallRecord → Type 0) → ((s : SeatState) (rs : List CallRecord) → P s rs → Q s rs) → (config : Config) (store : StoreId)
+    (r : Ran) → IsAudited config store P r.seats.items r.records.items r.verdict → IsAudited config store Q r.seats.items r.records.items r.verdict
+audited_as P Q f config store r audited = record {
+  seats_are = audited.seats_are;
+  made_by = record {
+    parts = audited.made_by.parts;
+    each = zip_map P Q f r.seats.items audited.made_by.parts audited.made_by.each;
+    joined = audited.made_by.joined;
+  };
+  verdict_is = audited.verdict_is;
+}
 
 -- a whole run, by the crew or by a session
 pub of_crew : (asked : AskedRun) (store : StoreId) (ran : Result Ran Failure) → HasSizes store asked.config → asked.waits ≡ false →
-    IfOk ran (λ r. IsAudited asked.config store r.seats.items r.records.items r.verdict) → IfOk ran (λ r. All (HasMadeAll asked.load) r.seats.items) →
+    IfOk ran (λ r. IsAudited asked.config store (HasMadeAll asked.load) r.seats.items r.records.items r.verdict) →
     IfOk ran (λ r. AreLawfulAlone r.seats.items) → IfOk ran (IsRunOf asked)
-of_crew asked store (Ok r) sizes waits audited made lawful = record {
-  whole = record { store = store; sizes = sizes; audited = audited; made = λ i d lt. inl (made i d lt); lawful = lawful };
+of_crew asked store (Ok r) sizes waits audited lawful = record {
+  whole = record {
+    store = store;
+    sizes = sizes;
+    audited = audited_as (HasMadeAll asked.load) (HasTakenAll asked.load) (λ s rs made. inl made) asked.config store r audited;
+    lawful = lawful;
+  };
   history = λ so. absurd (true≢false (sym so ∙ waits));
 }
-of_crew asked store (Err _) sizes waits audited made lawful = tt
+of_crew asked store (Err _) sizes waits audited lawful = tt
 
 pub of_session : (asked : AskedRun) (ran : Result Ran Failure) →
-    IfOk ran (λ r. IsAuditedWhole asked.config r.seats.items r.records.items r.verdict) → IfOk ran (λ r. All (HasSettled asked.load) r.seats.items) →
+    IfOk ran (λ r. IsAuditedWhole asked.config (HasSettled asked.load) r.seats.items r.records.items r.verdict) →
     IfOk ran (λ r. AreLawfulAlone r.seats.items) → IfOk ran (IsRunOf asked)
-of_session asked (Ok r) audited made lawful = record {
-  whole = record { store = audited.store; sizes = audited.sizes; audited = audited.audited; made = λ i d lt. inr (made i d lt); lawful = lawful };
+of_session asked (Ok r) audited lawful = record {
+  whole = record {
+    store = audited.store;
+    sizes = audited.sizes;
+    audited = audited_as (HasSettled asked.load) (HasTakenAll asked.load) (λ s rs made. inr made) asked.config audited.store r audited.audited;
+    lawful = lawful;
+  };
   history = λ _. audited.whole;
 }
-of_session asked (Err _) audited made lawful = tt
+of_session asked (Err _) audited lawful = tt
 
 -- how a run ends, by its verdict
 module _ (asked : AskedRun) (before after : Option (List ℕ)) (ran : Ran) (is_run : IsRunOf asked ran) (prints : PrintsRun asked ran before after) where

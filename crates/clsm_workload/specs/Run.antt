@@ -1,7 +1,8 @@
 -- How a run ends, and its session where writes wait.
-use Rattle.std.specs.Prelude.{◌≡◌, ℕ, ◌⊎◌, ⊤, All, IsTrue, List, Option, Result, Ok, Err, [], ◌∷◌, IsOk, OnOk, map}
+use Rattle.std.specs.Prelude.{◌≡◌, ℕ, ◌⊎◌, ⊤, All, IsTrue, List, Option, Result, Ok, Err, [], ◌∷◌, IsOk, OnOk, flat_map, map}
 use Rattle.clsm_model.specs.declared.config.Config.{Config}
 use Rattle.clsm_model.specs.Config.{IsSound}
+use Rattle.clsm_model.specs.declared.record.CallRecord.{CallRecord}
 use Rattle.clsm_audit.specs.declared.fault.AuditError.{AuditError}
 use Rattle.clsm_audit.specs.declared.fault.AuditError.TheVariants as audits
 use Rattle.clsm_audit.specs.declared.fault.FaultKind.{FaultKind}
@@ -11,7 +12,7 @@ use Rattle.clsm_store_calls.specs.Seats.{HasSizes, StoreId, SeatState}
 use Rattle.clsm_store_audit.specs.Settled.{AreLawfulAlone}
 use Rattle.clsm_text.specs.declared.failure.Failure.{Failure}
 use Rattle.clsm_text.specs.declared.failure.Failure.TheVariants.{Device, Fault, Refused, Memory}
-use Rattle.clsm_workload.specs.Calls.{HasMadeAll, HasSettled, IsAudited, IsVerdict, all_calls}
+use Rattle.clsm_workload.specs.Calls.{HasMadeAll, HasSettled, IsAudited, IsVerdict}
 use Rattle.clsm_workload.specs.Printed.{PrintsRun}
 use Rattle.clsm_workload.specs.declared.load.AskedRun.{AskedRun}
 use Rattle.clsm_workload.specs.declared.load.Load.{Load}
@@ -22,21 +23,24 @@ use Rattle.clsm_session.specs.declared.refusal.SessionError.{SessionError}
 use Rattle.clsm_workload.specs.declared.worker.Made.{Made}
 use Rattle.clsm_workload.specs.declared.worker.Worked.{Worked}
 
--- all seats of a store of these sizes made all calls that they were asked for, each of them is
+-- it took all turns that it was asked for, and these are the records of them
+abbrev pub HasTakenAll : Load → SeatState → List CallRecord → Type 0
+HasTakenAll load seat records = HasMadeAll load seat records ⊎ HasSettled load seat records
+
+-- all seats of a store of these sizes took all turns that they were asked for, each of them is
 -- lawful, and all their records were audited
 pub record IsWholeRun (config : Config) (load : Load) (ran : Ran) : Type 0 where
   pub store : StoreId
   pub sizes : HasSizes store config
-  pub audited : IsAudited config store ran.seats.items ran.records.items ran.verdict
-  pub made : All (λ seat. HasMadeAll load seat ⊎ HasSettled load seat) ran.seats.items
+  pub audited : IsAudited config store (HasTakenAll load) ran.seats.items ran.records.items ran.verdict
   pub lawful : AreLawfulAlone ran.seats.items
 
 -- the run has the seats of these workers, each of which came to its end, and the verdict on all
--- calls of these seats
+-- their records
 pub record IsAuditOf (config : Config) (worked : List Worked) (ran : Ran) : Type 0 where
   pub seats : ran.seats.items ≡ map (λ w. w.seat) worked
   pub ended : All (λ w. IsOk w.made.ended) worked
-  pub records : ran.records.items ≡ all_calls ran.seats.items
+  pub records : ran.records.items ≡ flat_map (λ w. w.made.records.items) worked
   pub verdict : IsVerdict config ran.records.items ran.verdict
 
 -- how a run with this verdict ends
@@ -91,11 +95,9 @@ IsStatus status = (status ≡ 0) ⊎ ((status ≡ 1) ⊎ ((status ≡ 2) ⊎ (st
 
 -- ---- what the session of a run comes to
 
--- the seat's calls are exactly the records that were made by it; and unless memory ran out, it made
--- each call that it was asked for
-pub record IsMade (load : Load) (seat : SeatState) (made : Made) : Type 0 where
-  pub records : seat.calls ≡ made.records.items
-  pub all : OnOk made.ended (HasSettled load seat)
+-- unless memory ran out, the seat took each turn that it was asked for, and these are the records
+abbrev pub IsMade : Load → SeatState → Made → Type 0
+IsMade load seat made = OnOk made.ended (HasSettled load seat made.records.items)
 
 -- and so each seat
 abbrev pub AreMade : Load → List SeatState → List Made → Type 0
@@ -104,7 +106,7 @@ AreMade load (s ∷ ss) (m ∷ ms) = IsMade load s m × AreMade load ss ms
 AreMade load _ _ = ⊥
 
 -- the seats are all those of a store of these sizes, their calls are one whole history, and the
--- records are those of these calls
+-- records are those of their turns
 pub record IsEnded (config : Config) (load : Load) (ended : Ended Made) : Type 0 where
   pub sizes : HasSizes ended.store config
   pub all_seats : AreAllSeats ended.store config.seats ended.seats.items

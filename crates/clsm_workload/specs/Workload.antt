@@ -1,19 +1,24 @@
--- The workload: which call each draw of three words is.
+-- The workload: which turn each draw of three words is.
 use Rattle.std.specs.Prelude.{ℕ, ◌+◌, ◌-◌, ◌%◌, ◌^◌, ◌==◌, List, [], ◌∷◌, map, take, Bool, nat_le, if◌then◌else◌, ◌&&◌}
 use Rattle.rand_pcg.specs.Lcg.{Lcg}
 use Rattle.rand_pcg.specs.Pcg.{pcg32}
 use Rattle.clsm_model.specs.declared.slot.Change.TheVariants.{Set}
+use Rattle.clsm_workload.specs.declared.turn.Turn.{Turn}
+use Rattle.clsm_workload.specs.declared.turn.Turn.TheVariants.{Call, Many, Swap}
 use Rattle.clsm_workload.specs.declared.workload.Draw.{Draw}
 use Rattle.clsm_model.specs.declared.deal.Deal.{Deal}
 use Rattle.clsm_model.specs.declared.deal.Deal.TheVariants.{Put, Remove, Get, Add, Claim, Snap, Close, GetAt, Scan, Batch}
 
--- where the words come from, the number of keys, and whether there are batches
+-- where the words come from, the number of keys, and whether there are batches, reads of several
+-- keys, and exchanges
 pub record Source : Type 0 where
   pub words : Lcg
   pub keys : ℕ
   pub batch : Bool
+  pub many : Bool
+  pub swap : Bool
 
--- the generator after one word, and after the three of a call
+-- the generator after one word, and after the three of a turn
 abbrev pub after_word : Lcg → Lcg
 after_word g = (pcg32 g).1
 
@@ -44,7 +49,7 @@ dealt r k v keys has_snapshot =
     else if r == 14 then (if has_snapshot then GetAt k else Snap)
     else if has_snapshot then Close else Scan 0 (keys - 1)
 
--- the call of a draw where there are no batches
+-- the call of a draw where there are calls of one key alone
 abbrev pub deal_of : Draw → ℕ → Bool → Deal
 deal_of draw keys has_snapshot =
     dealt (draw.call % 16) (draw.key % keys) draw.first keys has_snapshot
@@ -56,8 +61,23 @@ pair_of draw keys =
     ∷ ((draw.key % keys + 1) % keys, Set (words_by draw.first))
     ∷ [])
 
--- the call of a draw: with batches, one of them at the number 0
-abbrev pub deal_from : Source → Draw → Bool → Deal
-deal_from source draw has_snapshot =
-    if source.batch && draw.call % 16 == 0 then pair_of draw source.keys
-    else deal_of draw source.keys has_snapshot
+-- the exchange of a draw: of two keys, by its second and its third word
+abbrev pub swap_of : Draw → ℕ → Turn
+swap_of draw keys = Swap (draw.key % keys) (draw.first % keys)
+
+-- the key and the three behind it, modulo the number of keys
+abbrev pub keys_from : ℕ → ℕ → List ℕ
+keys_from key keys = key ∷ (key + 1) % keys ∷ (key + 2) % keys ∷ (key + 3) % keys ∷ []
+
+-- the read of several keys of a draw
+abbrev pub many_of : Draw → ℕ → Turn
+many_of draw keys = Many (keys_from (draw.key % keys) keys)
+
+-- the turn of a draw: with batches, one of them at the number 0; with exchanges, one at 1; with
+-- reads of several keys, one at 7
+abbrev pub turn_from : Source → Draw → Bool → Turn
+turn_from source draw has_snapshot =
+    if source.batch && draw.call % 16 == 0 then Call (pair_of draw source.keys)
+    else if source.swap && draw.call % 16 == 1 then swap_of draw source.keys
+    else if source.many && draw.call % 16 == 7 then many_of draw source.keys
+    else Call (deal_of draw source.keys has_snapshot)

@@ -107,22 +107,39 @@ pub fn write_records<W: Write>(
     Ok(())
 }
 
-/// The moments of a call of which the clock told none: it may have been made at any.
+/// The moments of a turn of which the clock told none: it may have been taken at any.
 const ANY: Moments = Moments {
     begin: 0,
     end: u64::MAX,
 };
 
-/// The moments of the first answered call among these notes from this place on, and the place
-/// behind it.
-fn next_moments(notes: &[Note], from: usize) -> (Moments, usize) {
-    for place in from..notes.len() {
+/// The place of a record among the notes: the note of its turn, and how many records of that turn
+/// stand before it.
+#[derive(Clone, Copy)]
+struct Noted {
+    place: usize,
+    before: usize,
+}
+
+/// The moments of the turn of the record at this place, and the place of the next record.
+fn next_moments(notes: &[Note], from: Noted) -> (Moments, Noted) {
+    let mut before = from.before;
+    for place in from.place..notes.len() {
         let note = notes[place];
-        if note.is_answered {
-            return (note.moments.unwrap_or(ANY), place + 1);
+        if before < note.records {
+            let next = Noted {
+                place,
+                before: before + 1,
+            };
+            return (note.moments.unwrap_or(ANY), next);
         }
+        before = 0;
     }
-    (ANY, notes.len())
+    let end = Noted {
+        place: notes.len(),
+        before: 0,
+    };
+    (ANY, end)
 }
 
 /// Writes each record as a line that ends in the moments of its call. Refused as `write_records`
@@ -138,7 +155,10 @@ pub fn write_clocked<W: Write>(
         (PrintsTimed records.now (W.contents output.old) (W.contents output.new)) }
 {
     let mut held = Vec::new(alloc);
-    let mut place = 0;
+    let mut place = Noted {
+        place: 0,
+        before: 0,
+    };
     for record in records {
         let (moments, behind) = next_moments(notes, place);
         place = behind;

@@ -24,7 +24,6 @@ pub fn audited<R: Clock>(
     worked: Vec<Worked>,
     calling: Calling,
 ) -> Result<Ran, Failure>
-    requires { All (λ w. w.seat.calls ≡ w.made.records.items) worked.items }
     ensures audit { IfOk result (IsAuditOf config.now worked.items) }
     ensures lawful { IfOk result (λ ran. AreLawfulAlone ran.seats.items) }
     ensures stopped { IfErr result StopsWork }

@@ -48,8 +48,7 @@ where
     requires seats { AreNew opened.store asked.now.config.seats opened.seats.items }
     requires merger { IsNewMerger opened.store opened.merger }
     ensures audited { IfOk result (λ ran.
-        IsAudited asked.now.config opened.store ran.seats.items ran.records.items ran.verdict) }
-    ensures made { IfOk result (λ ran. All (HasMadeAll asked.now.load) ran.seats.items) }
+        IsAudited asked.now.config opened.store (HasMadeAll asked.now.load) ran.seats.items ran.records.items ran.verdict) }
     ensures lawful { IfOk result (λ ran. AreLawfulAlone ran.seats.items) }
     ensures stopped { IfErr result StopsWork }
 {

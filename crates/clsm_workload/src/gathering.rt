@@ -1,6 +1,5 @@
 //! The records of all workers as one list.
-ghost use Rattle.std.specs.Prelude.{◌≡◌, ◌∷◌, [], ◌++◌, All, IfOk, IsOk, OnOk, map};
-ghost use Rattle.clsm_workload.specs.Calls.{all_calls};
+ghost use Rattle.std.specs.Prelude.{◌≡◌, ◌∷◌, [], ◌++◌, All, IfOk, IsOk, OnOk, flat_map, map};
 
 use crate::watch::Note;
 use crate::worker::{Made, Worked};
@@ -16,12 +15,11 @@ pub struct Gathered {
     pub notes: Vec<Note>,
 }
 
-/// What all workers gave back: their seats in their order, and all calls of these seats. Refused
-/// if memory runs out.
+/// What all workers gave back: their seats in their order, and all records in the same order.
+/// Refused if memory runs out.
 pub fn gather(alloc: Global, worked: Vec<Worked>) -> Result<Gathered, Memory>
-    requires { All (λ w. w.seat.calls ≡ w.made.records.items) worked.items }
     ensures seats { IfOk result (λ all. all.seats.items ≡ map (λ w. w.seat) worked.items) }
-    ensures records { IfOk result (λ all. all.records.items ≡ all_calls all.seats.items) }
+    ensures records { IfOk result (λ all. all.records.items ≡ flat_map (λ w. w.made.records.items) worked.items) }
     ensures ended { OnOk result (All (λ w. IsOk w.made.ended) worked.items) }
 {
     let mut all = Gathered {

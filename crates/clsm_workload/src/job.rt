@@ -26,6 +26,8 @@ impl Loaded for Brand {
       keys = 1;
       seed = 0;
       batch = false;
+      many = false;
+      swap = false;
       some_keys = omega arith;
       not_too_many_keys = omega arith;
     } };

@@ -1,4 +1,5 @@
 //! The kinds of calls.
+use crate::turn::Turn;
 use clsm_model::Deal;
 
 /// A kind of call.
@@ -14,10 +15,12 @@ pub enum Kind {
     GetAt,
     Scan,
     Batch,
+    Many,
+    Swap,
 }
 
 /// All kinds, in the order in which they are printed.
-pub const KINDS: [Kind; 10] = [
+pub const KINDS: [Kind; 12] = [
     Kind::Put,
     Kind::Remove,
     Kind::Get,
@@ -28,11 +31,22 @@ pub const KINDS: [Kind; 10] = [
     Kind::GetAt,
     Kind::Scan,
     Kind::Batch,
+    Kind::Many,
+    Kind::Swap,
 ];
 
 impl Kind {
-    /// The kind of a deal.
-    pub fn of(deal: &Deal) -> Kind {
+    /// The kind of a turn.
+    pub fn of(turn: &Turn) -> Kind {
+        match turn {
+            Turn::Call(deal) => Kind::of_call(deal),
+            Turn::Many { .. } => Kind::Many,
+            Turn::Swap { .. } => Kind::Swap,
+        }
+    }
+
+    /// The kind of a call.
+    fn of_call(deal: &Deal) -> Kind {
         match deal {
             Deal::Put { .. } => Kind::Put,
             Deal::Remove { .. } => Kind::Remove,
@@ -47,7 +61,7 @@ impl Kind {
         }
     }
 
-    /// Its name in print, which is that of the command.
+    /// Its name in print, which is that of the command, where there is one.
     pub fn name(&self) -> &'static str {
         match self {
             Kind::Put => "put",
@@ -60,6 +74,8 @@ impl Kind {
             Kind::GetAt => "getat",
             Kind::Scan => "scan",
             Kind::Batch => "batch",
+            Kind::Many => "many",
+            Kind::Swap => "swap",
         }
     }
 }

@@ -6,7 +6,7 @@ use clsm_model::Config;
 /// How much a run asks of each of its workers.
 #[derive(Clone, Copy, Debug)]
 pub struct Load {
-    /// The calls that it makes.
+    /// The turns that it takes, each of which is a call, or an exchange.
     pub ops: u32,
     /// The number of keys, 1 to 1,000,000: its calls are of keys below it.
     pub keys: u64,
@@ -14,6 +14,10 @@ pub struct Load {
     pub seed: u64,
     /// Whether batches are among its calls.
     pub batch: bool,
+    /// Whether reads of several keys at one time are.
+    pub many: bool,
+    /// Whether exchanges of what two keys have are: batches with conditions.
+    pub swap: bool,
     pub ghost some_keys: { 1 ≤ keys },
     pub ghost not_too_many_keys: { keys ≤ 1000000 },
 }

@@ -1,17 +1,21 @@
-//! Who plays the deals of a worker: a caller at a store, or a caller of a session.
-ghost use Rattle.std.specs.Prelude.{◌≡◌, IfErr, IfOk, is_some};
+//! Who makes the calls of a worker: a caller at a store, or a caller of a session.
+ghost use Rattle.std.specs.Prelude.{◌≡◌, IfErr, IfOk, is_some, length};
 ghost use Rattle.clsm_session.specs.Waiting.{RefusesCall};
+ghost use Rattle.clsm_store_calls.specs.Conditional.{AnswersIf, MeetsAll};
 ghost use Rattle.clsm_store_calls.specs.Seats.{IsSameSeat, Refuses};
 ghost use Rattle.clsm_store.specs.Play.{PlaysCall, WantsMemory};
+ghost use Rattle.clsm_store.specs.Promises.{GetsMany};
 ghost use Rattle.clsm_workload.specs.Play.{Plays};
+ghost use Rattle.clsm_workload.specs.Turns.{RefusesIf};
 
-use clsm_model::{CallRecord, Deal, Memory};
+use crate::unwritten::Unwritten;
+use clsm_model::{CallRecord, Change, Deal, Memory, Time, Value};
 use clsm_session::{BatchRefused, Place, SessionCaller};
-use clsm_store::{Answer, Call, Caller, Pace};
+use clsm_store::{Answer, Call, Caller, Condition, Pace};
 use std::alloc::Global;
 use std::sync::Wait;
 
-/// Who plays the deals of a worker, by one seat.
+/// Who makes the calls of a worker, by one seat.
 pub trait Player {
     ghost use Rattle.clsm_store_calls.specs.Seats.{SeatState};
 
@@ -37,6 +41,26 @@ pub trait Player {
         ensures plays { IfOk result (PlaysCall call.now (seat self.old) (seat self.new)) }
         ensures memory { IfOk result (λ answer. WantsMemory answer → Refuses (seat self.old) (seat self.new)) }
         ensures refused { IfErr result (RefusesCall call.now (seat self.old) (seat self.new)) }
+        ensures same { IsSameSeat (seat self.old) (seat self.new) };
+
+    /// Reads each of the keys at one time, puts its value into the place beside it, or that it has
+    /// none, and answers that time.
+    fn read_many(&mut self, keys: &[u64], values: &mut [Option<Value>]) -> Time
+        requires { length values.old ≡ length keys.now }
+        ensures reads { GetsMany (λ place value. place ≡ value) (seat self.old) (seat self.new) keys.now values.new result }
+        ensures same { IsSameSeat (seat self.old) (seat self.new) };
+
+    /// Writes the members as one batch if each condition holds at the batch's own time, and answers
+    /// that time.
+    fn write_if<R: Wait>(
+        &mut self,
+        rt: &R,
+        conditions: &[Condition],
+        members: &[(u64, Change)],
+    ) -> Result<Time, Unwritten>
+        ensures written { IfOk result (AnswersIf (seat self.old) (seat self.new) members.now) }
+        ensures holds { IfOk result (MeetsAll (seat self.old) (seat self.new) conditions.now) }
+        ensures refused { IfErr result (RefusesIf (seat self.old) (seat self.new) conditions.now members.now) }
         ensures same { IsSameSeat (seat self.old) (seat self.new) };
 }
 
@@ -81,6 +105,22 @@ impl<P: Pace + Drop> Player for Caller<'_, P> {
     ) -> Result<Answer, BatchRefused> {
         Ok(Caller::play(self, rt, alloc, call))
     }
+
+    fn read_many(&mut self, keys: &[u64], values: &mut [Option<Value>]) -> Time {
+        self.get_many(keys, values)
+    }
+
+    fn write_if<R: Wait>(
+        &mut self,
+        rt: &R,
+        conditions: &[Condition],
+        members: &[(u64, Change)],
+    ) -> Result<Time, Unwritten> {
+        match self.batch_if(rt, conditions, members) {
+            Ok(time) => Ok(time),
+            Err(error) => Err(Unwritten::AtOnce(error)),
+        }
+    }
 }
 
 /// A write waits for room, and is refused where the merger can make none.
@@ -102,5 +142,21 @@ impl<W: Wait, P: Place> Player for SessionCaller<'_, W, P> {
         call: &Call,
     ) -> Result<Answer, BatchRefused> {
         self.play(call)
+    }
+
+    fn read_many(&mut self, keys: &[u64], values: &mut [Option<Value>]) -> Time {
+        self.get_many(keys, values)
+    }
+
+    fn write_if<R: Wait>(
+        &mut self,
+        _rt: &R,
+        conditions: &[Condition],
+        members: &[(u64, Change)],
+    ) -> Result<Time, Unwritten> {
+        match self.batch_if(conditions, members) {
+            Ok(time) => Ok(time),
+            Err(error) => Err(Unwritten::AtLast(error)),
+        }
     }
 }

@@ -3,6 +3,7 @@ use crate::kind::{KINDS, Kind};
 use crate::merger::Merged;
 use crate::progress::per_second;
 use crate::ran::Ran;
+use crate::turn::Outcome;
 use crate::watch::Note;
 use clsm_audit::Moments;
 use clsm_model::{Config, Memory};
@@ -25,8 +26,9 @@ pub fn write_stats<E: Write>(
     for kind in KINDS {
         write_kind(alloc, faults, &ran.notes, kind, ran.calling.time)?;
     }
-    let full = ran.notes.iter().filter(|note| !note.is_answered).count();
-    writeln!(faults, "refused full {full}")?;
+    let full = count_ended(&ran.notes, Outcome::Refused);
+    let unmet = count_ended(&ran.notes, Outcome::Unmet);
+    writeln!(faults, "refused full {full}\nrefused unmet {unmet}")?;
     write_seats(faults, &ran.seats)?;
     if let Some(merged) = ran.calling.merged {
         write_merged(faults, config, &merged)?;
@@ -36,6 +38,11 @@ pub fn write_stats<E: Write>(
     writeln!(faults, "milliseconds calls {calling} audit {auditing}")?;
     faults.flush()?;
     Ok(())
+}
+
+/// How many turns ended so.
+fn count_ended(notes: &[Note], outcome: Outcome) -> usize {
+    notes.iter().filter(|note| note.outcome == outcome).count()
 }
 
 /// Writes how many callers the store has, how many of them have a snapshot open, and the time of
@@ -85,7 +92,7 @@ fn write_merged<E: Write>(faults: &mut E, config: &Config, merged: &Merged) -> i
 fn times_of(alloc: Global, notes: &[Note], kind: Kind) -> Result<Vec<u64>, Memory> {
     let mut times = Vec::new(alloc);
     for note in notes {
-        if !note.is_answered || note.kind != kind {
+        if note.outcome != Outcome::Done || note.kind != kind {
             continue;
         }
         if let Some(Moments { begin, end }) = note.moments {
@@ -117,7 +124,7 @@ fn write_kind<E: Write>(
     let answered = times.len();
     let refused = notes
         .iter()
-        .filter(|note| note.kind == kind && !note.is_answered)
+        .filter(|note| note.kind == kind && note.outcome != Outcome::Done)
         .count();
     let rate = per_second(answered as u64, time);
     let name = kind.name();

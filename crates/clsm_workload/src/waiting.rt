@@ -1,5 +1,5 @@
 //! A run whose writes wait for room: its workers are the callers of a session.
-ghost use Rattle.std.specs.Prelude.{◌≡◌, All, IfErr, IfOk, OnOk, length, map};
+ghost use Rattle.std.specs.Prelude.{◌≡◌, IfErr, IfOk, OnOk, length, map};
 ghost use Rattle.clsm_model.specs.declared.config.Config.{Config};
 ghost use Rattle.clsm_model.specs.Config.{IsSound};
 ghost use Rattle.clsm_session.specs.Ended.{StopsSession};
@@ -41,8 +41,7 @@ where
     R: Threads + Sync + Clock + Wait,
     E: Write + Send,
     ensures opened { OnOk result (IsSound asked.now.config) }
-    ensures audited { IfOk result (λ ran. IsAuditedWhole asked.now.config ran.seats.items ran.records.items ran.verdict) }
-    ensures made { IfOk result (λ ran. All (HasSettled asked.now.load) ran.seats.items) }
+    ensures audited { IfOk result (λ ran. IsAuditedWhole asked.now.config (HasSettled asked.now.load) ran.seats.items ran.records.items ran.verdict) }
     ensures lawful { IfOk result (λ ran. AreLawfulAlone ran.seats.items) }
     ensures stopped { IfErr result (StopsCalls asked.now.config) }
 {
@@ -80,8 +79,7 @@ fn audit_ended<R: Clock>(
     calling: Calling,
 ) -> Result<Ran, Failure>
     requires { IsEnded asked.now.config asked.now.load ended }
-    ensures audited { IfOk result (λ ran. IsAuditedWhole asked.now.config ran.seats.items ran.records.items ran.verdict) }
-    ensures made { IfOk result (λ ran. All (HasSettled asked.now.load) ran.seats.items) }
+    ensures audited { IfOk result (λ ran. IsAuditedWhole asked.now.config (HasSettled asked.now.load) ran.seats.items ran.records.items ran.verdict) }
     ensures lawful { IfOk result (λ ran. AreLawfulAlone ran.seats.items) }
     ensures stopped { IfErr result StopsWork }
 {

@@ -1,20 +1,24 @@
-//! The moments of a worker's calls.
+//! The moments of a worker's turns.
+ghost use Rattle.std.specs.Prelude.{◌<◌, OnOk, vec_len};
+ghost use Rattle.std.specs.Vec.{vec_capacity};
+
 use crate::kind::Kind;
+use crate::turn::Outcome;
 use clsm_audit::Moments;
-use clsm_model::Memory;
-use std::alloc::Global;
+use std::alloc::{AllocError, Global};
 use std::rt::Clock;
 
-/// How a call went: its kind, whether it was answered and not refused, and when it was made.
+/// How a turn went: its kind, how it ended, how many records it made, and when it was taken.
 #[derive(Clone, Copy, Debug)]
 pub struct Note {
     pub kind: Kind,
-    pub is_answered: bool,
+    pub outcome: Outcome,
+    pub records: usize,
     /// When it began and ended, in nanoseconds of the monotonic clock; none where that failed.
     pub moments: Option<Moments>,
 }
 
-/// The notes of a worker's calls, where it takes notes.
+/// The notes of a worker's turns, where it takes notes.
 #[derive(Drop)]
 pub struct Watch {
     is_on: bool,
@@ -29,7 +33,14 @@ impl Watch {
         }
     }
 
-    /// What the clock shows when a call begins, if notes are taken and it does not fail.
+    /// Makes room for one note. Refused if memory runs out.
+    pub fn make_room(&mut self) -> Result<(), AllocError>
+        ensures { OnOk result (vec_len self.new.notes < vec_capacity self.new.notes) }
+    {
+        self.notes.reserve(1)
+    }
+
+    /// What the clock shows when a turn begins, if notes are taken and it does not fail.
     pub fn begin<R: Clock>(&self, rt: &R) -> Option<u64> {
         if !self.is_on {
             return None;
@@ -37,23 +48,17 @@ impl Watch {
         nanoseconds(rt)
     }
 
-    /// Notes a call that began then and has ended. Refused if memory runs out.
-    pub fn note<R: Clock>(
-        &mut self,
-        rt: &R,
-        begun: Option<u64>,
-        kind: Kind,
-        is_answered: bool,
-    ) -> Result<(), Memory> {
+    /// Notes a turn that began then and has ended, if notes are taken. There is room for the note.
+    pub fn note<R: Clock>(&mut self, rt: &R, begun: Option<u64>, note: Note)
+        requires { vec_len self.old.notes < vec_capacity self.old.notes }
+    {
         if !self.is_on {
-            return Ok(());
+            return;
         }
-        let note = Note {
-            kind,
-            is_answered,
+        self.notes.push_reserved(Note {
             moments: moments(begun, nanoseconds(rt)),
-        };
-        self.notes.push(note).map_err(|_| Memory)
+            ..note
+        });
     }
 }
 
@@ -63,7 +68,7 @@ fn nanoseconds<R: Clock>(rt: &R) -> Option<u64> {
     u64::try_from(time.as_nanos()).ok()
 }
 
-/// The moments of a call, where the clock showed both.
+/// The moments of a turn, where the clock showed both.
 fn moments(begun: Option<u64>, ended: Option<u64>) -> Option<Moments> {
     let begin = begun?;
     let end = ended?.max(begin);

@@ -1,10 +1,12 @@
-//! A worker: a thread that makes the calls of its workload by its seat, and keeps their records.
-ghost use Rattle.std.specs.Prelude.{◌≡◌, ◌<◌, [], ◌++◌, OnOk, option_to_list, vec_len};
-ghost use Rattle.std.specs.Vec.{vec_capacity};
-ghost use Rattle.clsm_workload.specs.Calls.{KeepsRecords, MakesCalls, MakesNext, Works, after_call, workload_of};
+//! A worker: a thread that takes the turns of its workload by its seat, and keeps the records of
+//! what was answered.
+ghost use Rattle.std.specs.Prelude.{◌≡◌, [], IfErr, OnOk};
+ghost use Rattle.clsm_store_calls.specs.Seats.{IsSameSeat, Refuses};
+ghost use Rattle.clsm_workload.specs.Calls.{TakesNext, TakesSome, TakesTurns, Works, after_turn, workload_of};
 
 use crate::kind::Kind;
-use crate::player::{Player, play_deal};
+use crate::player::Player;
+use crate::taking::{MOST_RECORDS, take_turn};
 use crate::task::Task;
 use crate::watch::{Note, Watch};
 use crate::workload::Workload;
@@ -22,12 +24,12 @@ struct Worker {
     watch: Watch,
 }
 
-/// What a worker made: the records of the calls that were answered, and its notes of all.
+/// What a worker made: the records of what was answered, and its notes of all turns.
 #[derive(Drop)]
 pub struct Made {
     pub records: Vec<CallRecord>,
     pub notes: Vec<Note>,
-    /// Whether it made all its calls: not where it, or another worker, was refused memory.
+    /// Whether it took all its turns: not where it, or another worker, was refused memory.
     pub ended: Result<(), Memory>,
 }
 
@@ -38,9 +40,9 @@ pub struct Worked {
     pub made: Made,
 }
 
-/// Makes the calls of the seat's workload, as many as the load asks for, and answers the records of
-/// those that were answered. Where it is refused memory, or another worker was, it ends there, and
-/// the board says so.
+/// Takes the turns of the seat's workload, as many as the load asks for, and answers the records of
+/// what was answered. Where it is refused memory, or another worker was, it ends there, and the
+/// board says so.
 pub fn work<S: Player, R: Clock + Wait>(rt: &R, alloc: Global, player: &mut S, task: &Task) -> Made
     ensures { Works task.now.load (S.seat player.old) (S.seat player.new) result }
 {
@@ -58,20 +60,19 @@ pub fn work<S: Player, R: Clock + Wait>(rt: &R, alloc: Global, player: &mut S, t
 }
 
 impl Worker {
-    /// The worker with this number, before its first call.
+    /// The worker with this number, before its first turn.
     fn new(alloc: Global, number: u32, task: &Task) -> Worker
         ensures workload { result.workload ≡ workload_of task.now.load number }
         ensures records { result.records.items ≡ [] }
     {
-        let load = &task.load;
         Worker {
-            workload: Workload::new(load.seed, number, load.keys, load.batch),
+            workload: Workload::new(&task.load, number),
             records: Vec::new(alloc),
             watch: Watch::new(alloc, task.shows.stats || task.shows.clock),
         }
     }
 
-    /// Makes as many calls as the load asks for. Refused if memory runs out, here or at another
+    /// Takes as many turns as the load asks for. Refused if memory runs out, here or at another
     /// worker.
     fn make_all<S: Player, R: Clock + Wait>(
         &mut self,
@@ -80,10 +81,12 @@ impl Worker {
         player: &mut S,
         task: &Task,
     ) -> Result<(), Memory>
-        ensures kept { KeepsRecords (S.seat player.old) (S.seat player.new) self.old.records.items self.new.records.items }
-        ensures made { OnOk result (MakesCalls task.now.load.ops self.old.workload (S.seat player.old) (S.seat player.new)) }
+        requires none { self.old.records.items ≡ [] }
+        ensures some { TakesSome task.now.load.ops self.old.workload (S.seat player.old) (S.seat player.new) self.new.records.items }
+        ensures all { OnOk result (TakesTurns task.now.load.ops self.old.workload (S.seat player.old) (S.seat player.new) self.new.records.items) }
+        ensures same { IsSameSeat (S.seat player.old) (S.seat player.new) }
     {
-        for made in 0..task.load.ops {
+        for taken in 0..task.load.ops {
             if task.board.is_starved() {
                 return Err(Memory);
             }
@@ -95,35 +98,36 @@ impl Worker {
         Ok(())
     }
 
-    /// Makes the next call, and keeps its record if it was answered. Refused if memory runs out; no
-    /// call was made then, or its record is kept too.
+    /// Takes the next turn, and keeps the records of what was answered. Refused if memory runs out:
+    /// no call was answered then.
+    #[tactic(auto, using(crate::proofs::Calls::refuses_self, crate::proofs::Calls::same_self))]
     fn step<S: Player, R: Clock + Wait>(
         &mut self,
         rt: &R,
         alloc: Global,
         player: &mut S,
     ) -> Result<(), Memory>
-        ensures kept { KeepsRecords (S.seat player.old) (S.seat player.new) self.old.records.items self.new.records.items }
-        ensures made { OnOk result (MakesNext self.old.workload (S.seat player.old) (S.seat player.new)) }
-        ensures workload { OnOk result (self.new.workload ≡ after_call self.old.workload) }
+        ensures taken { OnOk result (TakesNext self.old.workload (S.seat player.old) (S.seat player.new) self.old.records.items self.new.records.items) }
+        ensures workload { OnOk result (self.new.workload ≡ after_turn self.old.workload) }
+        ensures same { IsSameSeat (S.seat player.old) (S.seat player.new) }
+        ensures refused { IfErr result (λ refusal. Refuses (S.seat player.old) (S.seat player.new)) }
+        ensures kept { IfErr result (λ refusal. self.new.records.items ≡ self.old.records.items) }
     {
-        self.records.reserve(1)?;
-        let deal = self.workload.next(player.has_snapshot());
-        let kind = Kind::of(&deal);
+        self.records.reserve(MOST_RECORDS)?;
+        self.watch.make_room()?;
+        let turn = self.workload.next(player.has_snapshot());
+        let kind = Kind::of(&turn);
         let begun = self.watch.begin(rt);
-        let record = play_deal(rt, alloc, player, deal)?;
-        let is_answered = record.is_some();
-        keep(&mut self.records, record);
-        self.watch.note(rt, begun, kind, is_answered)
-    }
-}
-
-/// Keeps the record, if there is one. There is room for it.
-fn keep(records: &mut Vec<CallRecord>, answered: Option<CallRecord>)
-    requires { vec_len records.old < vec_capacity records.old }
-    ensures { records.new.items ≡ records.old.items ++ option_to_list answered }
-{
-    if let Some(record) = answered {
-        records.push_reserved(record);
+        let before = self.records.len();
+        let outcome = take_turn(rt, alloc, player, turn, &mut self.records)?;
+        let records = self.records.len().saturating_sub(before);
+        let note = Note {
+            kind,
+            outcome,
+            records,
+            moments: None,
+        };
+        self.watch.note(rt, begun, note);
+        Ok(())
     }
 }

@@ -4,11 +4,11 @@ from __future__ import annotations
 
 import threading
 from types import TracebackType
-from typing import TYPE_CHECKING, Optional, Type
+from typing import TYPE_CHECKING, Iterable, Mapping, NoReturn, Optional, Type, Union
 
 from . import _core as core
 from ._errors import Code, Error
-from ._values import Value
+from ._values import NONE, Row, Value, rows_of
 
 if TYPE_CHECKING:
     from ._store import Store
@@ -48,8 +48,22 @@ class Batch:
         2
         """
         if value is None:
-            raise TypeError("None is no value; remove removes a key")
+            raise TypeError(NONE)
         self._rows.extend(self._store._pack(key, value))
+
+    def update(self, rows: Union[Mapping[int, Value], Iterable[Row]]) -> None:
+        """Adds a write of each row of a mapping, or of an iterable of pairs, in its order.
+
+        What one of them raises ends it, with those before it added.
+
+        >>> with Store() as store:
+        ...     with store.batch() as batch:
+        ...         batch.update({7: 70, 8: (80, 81)})
+        ...     list(store.scan())
+        [(7, 70), (8, (80, 81))]
+        """
+        for key, value in rows_of(rows):
+            self[key] = value
 
     def remove(self, key: int) -> None:
         """Adds a removal of the key, whether or not that has a value.
@@ -87,8 +101,7 @@ class Batch:
 
         It waits as a write does. ``ValueError`` if there are more writes than an epoch of the store
         has; :class:`RunFull`, :class:`VersionsFull`, or :class:`Error` if memory ran out. Nothing
-        was written then, and
-        the batch has its writes still.
+        was written then, and the batch still has its writes.
 
         >>> with Store() as store:
         ...     batch = store.batch()
@@ -120,3 +133,9 @@ class Batch:
             self.write()
         else:
             self.clear()
+
+    def __repr__(self) -> str:
+        return f"<Batch of {len(self)} writes>"
+
+    def __reduce__(self) -> NoReturn:
+        raise TypeError("a Batch cannot be copied or pickled")

@@ -9,7 +9,7 @@ from __future__ import annotations
 import math
 import operator
 import struct
-from typing import Any, Generic, Tuple, TypeVar
+from typing import Any, Generic, Iterable, Optional, Tuple, TypeVar
 
 from ._values import Value
 
@@ -89,6 +89,35 @@ class ValueCodec(Generic[T]):
         raise NotImplementedError
 
 
+class _Named:
+    """A codec of the package: it is shown by its name there, and a copy is the same object."""
+
+    def __repr__(self) -> str:
+        return f"{__package__}.{self.__reduce__()}"
+
+    def __reduce__(self) -> str:
+        return type(self).__name__.lower()
+
+
+def checked_key_codec(codec: Optional[AnyKeyCodec]) -> AnyKeyCodec:
+    """The codec, if it is one."""
+    return _checked("key", codec, "key_of", "of_key")
+
+
+def checked_value_codec(codec: Optional[AnyValueCodec]) -> AnyValueCodec:
+    """The codec, if it is one."""
+    return _checked("value", codec, "value_of", "of_value")
+
+
+def _checked(name: str, codec: Any, *methods: str) -> Any:
+    if codec is None:
+        return plain
+    has_all = all(callable(getattr(codec, method, None)) for method in methods)
+    if isinstance(codec, type) or not has_all:
+        raise TypeError(f"{name} is no codec of {name}s: {codec!r}")
+    return codec
+
+
 def _word_of(words: Value) -> int:
     if isinstance(words, tuple):
         raise ValueError("the value has several words")
@@ -98,7 +127,7 @@ def _word_of(words: Value) -> int:
 # ---- Numbers
 
 
-class Signed(KeyCodec[int], ValueCodec[int]):
+class Signed(_Named, KeyCodec[int], ValueCodec[int]):
     """Ints from -2**63 to 2**63 - 1."""
 
     def _checked(self, number: int) -> int:
@@ -121,7 +150,7 @@ class Signed(KeyCodec[int], ValueCodec[int]):
         return word - (word >> 63 << 64)
 
 
-class Floating(KeyCodec[float], ValueCodec[float]):
+class Floating(_Named, KeyCodec[float], ValueCodec[float]):
     """Floats by their bits, in IEEE 754's total order as keys: -0.0 is below 0.0."""
 
     def _bits(self, number: float) -> int:
@@ -146,14 +175,16 @@ class Floating(KeyCodec[float], ValueCodec[float]):
         return self._of_bits(_word_of(words))
 
 
-class Pairs(KeyCodec[Tuple[int, int]]):
+class Pairs(_Named, KeyCodec[Tuple[int, int]]):
     """Pairs of ints from 0 to 2**32 - 1, by the first one, then by the second."""
 
     def key_of(self, key: Tuple[int, int]) -> int:
-        first, second = map(operator.index, key)
-        if not (0 <= first < _HALF_LIMIT and 0 <= second < _HALF_LIMIT):
+        if not isinstance(key, Iterable):
+            raise TypeError(f"a pair is two ints, not {type(key)}")
+        numbers = tuple(map(operator.index, key))
+        if len(numbers) != 2 or not all(0 <= number < _HALF_LIMIT for number in numbers):
             raise ValueError("a pair has two numbers from 0 to 2**32 - 1")
-        return first << _HALF_BITS | second
+        return numbers[0] << _HALF_BITS | numbers[1]
 
     def of_key(self, number: int) -> Tuple[int, int]:
         return divmod(number, _HALF_LIMIT)
@@ -162,7 +193,7 @@ class Pairs(KeyCodec[Tuple[int, int]]):
 # ---- Bytes and texts
 
 
-class Octets(KeyCodec[bytes], ValueCodec[bytes]):
+class Octets(_Named, KeyCodec[bytes], ValueCodec[bytes]):
     """Bytes: up to 8 in a key, the last of which is not 0, and up to 63 in a value."""
 
     def key_of(self, key: bytes) -> int:
@@ -193,17 +224,23 @@ class Octets(KeyCodec[bytes], ValueCodec[bytes]):
         return counted[1:end]
 
 
-class Text(KeyCodec[str], ValueCodec[str]):
+def _utf_8(text: str) -> bytes:
+    if not isinstance(text, str):
+        raise TypeError(f"a text is a str, not {type(text)}")
+    return text.encode()
+
+
+class Text(_Named, KeyCodec[str], ValueCodec[str]):
     """Texts as UTF-8: up to 8 bytes in a key, not ending in a zero, up to 63 in a value."""
 
     def key_of(self, key: str) -> int:
-        return octets.key_of(str.encode(key))
+        return octets.key_of(_utf_8(key))
 
     def of_key(self, number: int) -> str:
         return octets.of_key(number).decode()
 
     def value_of(self, value: str) -> Value:
-        return octets.value_of(str.encode(value))
+        return octets.value_of(_utf_8(value))
 
     def of_value(self, words: Value) -> str:
         return octets.of_value(words).decode()

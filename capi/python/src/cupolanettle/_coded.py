@@ -2,10 +2,10 @@
 
 from __future__ import annotations
 
-from typing import Any, List, Optional, Tuple
+from typing import Any, Dict, List, Optional, Tuple
 
 from . import _core as core
-from ._codecs import AnyKeyCodec, AnyValueCodec, plain
+from ._codecs import AnyKeyCodec, AnyValueCodec, checked_key_codec, checked_value_codec
 from ._reading import Reader, Rows
 from ._snapshot import Snapshot
 from ._store import Store
@@ -85,8 +85,8 @@ class CodedStore(Coded, Store):
         value: Optional[AnyValueCodec] = None,
         **options: Any,
     ) -> None:
-        self._keys = plain if key is None else key
-        self._values = plain if value is None else value
+        self._keys = checked_key_codec(key)
+        self._values = checked_value_codec(value)
         super().__init__(**options)
 
     def _put(self, key: Any, value: Any) -> None:
@@ -99,7 +99,13 @@ class CodedStore(Coded, Store):
         super()._remove(self._keys.key_of(key))
 
     def _add(self, key: Any, by: Any) -> Any:
-        return self.alter(key, lambda old: by if old is None else old + by)
+        return self.alter(key, lambda old: self._sum(old, by))
+
+    def _sum(self, old: Any, by: Any) -> Any:
+        return by if old is None else old + by
+
+    def _codecs(self) -> Dict[str, Any]:
+        return {"key": self._keys, "value": self._values}
 
     def _put_if_absent(self, key: Any, value: Any) -> Any:
         held = super()._put_if_absent(self._keys.key_of(key), self._values.value_of(value))

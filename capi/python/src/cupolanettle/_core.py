@@ -10,7 +10,9 @@ from ._finding import native
 if TYPE_CHECKING:
     from ._native import Rows, Snapshot, Store, pack
 elif native is None:
-    from ._foreign import Rows, Snapshot, Store, pack
+    from ._foreign import Snapshot, Store
+    from ._foreign_rows import Rows
+    from ._foreign_values import pack
 else:
     native.refuse_by(error_of)
     Rows, Snapshot, Store, pack = native.Rows, native.Snapshot, native.Store, native.pack

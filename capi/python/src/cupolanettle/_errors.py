@@ -63,13 +63,14 @@ IDLE = int(Code.IDLE)
 class Error(Exception):
     """The library refused a call, which has changed nothing.
 
-    But :meth:`Store.put_many` has written the first rows then, so many as ``written`` says.
+    But :meth:`Store.put_many`, :meth:`Store.remove_range` and :meth:`Store.clear` have written, or
+    removed, the first rows then, so many as ``written`` says.
 
     ``code`` says why; the text is its name. Some codes have classes of their own:
     :class:`RunFull`, :class:`VersionsFull`, :class:`OwnSnapshot`, :class:`NoSeat`,
-    :class:`Conflict` and :class:`Closed`. The others are ``MEMORY`` (memory ran out), ``WORN`` (the times of writes end
-    at 2**62), ``NO_THREAD`` (the system started no thread) and ``BAD_BUILD`` (package and library
-    do not fit).
+    :class:`Conflict` and :class:`Closed`. The others are ``MEMORY`` (memory ran out), ``WORN`` (the
+    times of writes end at 2**62), ``NO_THREAD`` (the system started no thread) and ``BAD_BUILD``
+    (package and library do not fit).
 
     >>> error = Error(Code.MEMORY)
     >>> error.code, str(error)
@@ -157,7 +158,7 @@ class Conflict(Error):
     ...         t[7] = t.get(7, 0) + 1
     ...         store[7] = 70
     Traceback (most recent call last):
-    cupolanettle.Conflict: conflict
+    cupolanettle.Conflict: conflict: what the transaction read has changed
     """
 
     def __init__(self, code: int = Code.CONFLICT) -> None:

@@ -13,7 +13,6 @@ from __future__ import annotations
 
 import ctypes
 import os
-import struct
 import sys
 import threading
 import time
@@ -21,7 +20,6 @@ import weakref
 from typing import (
     Any,
     Dict,
-    Iterator,
     List,
     NoReturn,
     Optional,
@@ -29,18 +27,24 @@ from typing import (
     Set,
     Tuple,
     TypeVar,
-    Union,
 )
 
 from . import _library as library
 from ._errors import IDLE, KEPT, NOT_FOUND, OK, Code, error_of
 from ._foreign_buffers import Into, batches_of
+from ._foreign_values import (
+    ROW,
+    Page,
+    array_of,
+    many_of,
+    packed,
+    packed_or_none,
+    page_of,
+    row_of,
+    value_of,
+)
 from ._handles import Alarm, Caller, Handle, Lease, Silent, View, prune, switch_off, thread_number
-from ._values import Row, Value, key_of, word_of, words_of
-
-Page = Tuple[List[Row], Optional[int]]
-# The rest of a page, the key behind it if there are more rows, and the room of the next page.
-Place = Tuple[Iterator[Row], Optional[int], int]
+from ._values import Row, Value, key_of, word_of
 
 # The callers of the pool, by their numbers. The first of each kind is always open.
 _OPENERS = range(0, 4)
@@ -63,66 +67,9 @@ _COUNTED: Dict[int, str] = {
 _LONGEST_WAIT = 100  # milliseconds that a call waits for a snapshot to be closed
 _SECOND = 1_000  # milliseconds
 _PAUSE = 0.001  # seconds until somebody who waits looks again
-_ARRAYS = [ctypes.c_uint64 * count for count in range(9)]
-_NO_WORDS = (0,) * 8
 
 _FEW_KEYS = 256  # that are read while the interpreter's lock is kept
 _COUNT_SIZE = ctypes.sizeof(library.RangeCount)
-
-# A row of the library: the key, the length of the value, and its eight words.
-_ROW = struct.Struct("=10Q")
-
-
-def pack(key: int, value: Optional[Value]) -> bytes:
-    """A row as the library has it; ``None`` stands for no value."""
-    number = key_of(key)
-    words = () if value is None else words_of(value)
-    return _ROW.pack(number, len(words), *words, *_NO_WORDS[len(words) :])
-
-
-def _array_of(value: Value) -> Any:
-    words = words_of(value)
-    return _ARRAYS[len(words)](*words)
-
-
-def _packed(value: Value) -> library.Value:
-    words = words_of(value)
-    return library.Value(len(words), tuple(words))
-
-
-def _packed_or_none(value: Optional[Value]) -> Optional[library.Value]:
-    """The value as the library has it; ``None``, a null pointer, stands for no value."""
-    return None if value is None else _packed(value)
-
-
-def _value_of(found: library.Value) -> Optional[Value]:
-    """The value that the library found, if it found one."""
-    if not found.length:
-        return None
-    words: List[int] = found.words[: found.length]
-    return words[0] if len(words) == 1 else tuple(words)
-
-
-def _many(keys: List[int]) -> Tuple[Any, Any]:
-    """The keys as the library has them, and room for their values."""
-    if not isinstance(keys, list):
-        raise TypeError("keys are a list")
-    numbers = [key_of(key) for key in keys]
-    return (ctypes.c_uint64 * len(numbers))(*numbers), (library.Value * len(numbers))()
-
-
-def _row_of(found: library.Row) -> Optional[Row]:
-    """The row that the library found, if it found one."""
-    value = _value_of(found.value)
-    return None if value is None else (found.key, value)
-
-
-def _page_of(rows: Any, end: library.PageEnd) -> Page:
-    read = ctypes.string_at(rows, end.rows * _ROW.size)
-    page = [
-        (row[0], row[2] if row[1] == 1 else row[2 : 2 + row[1]]) for row in _ROW.iter_unpack(read)
-    ]
-    return page, end.next if end.more else None
 
 
 def _add(references: Set[weakref.ref[Kind]], value: Kind) -> None:
@@ -137,7 +84,14 @@ class Store:
     _alarm: object = Silent()
 
     def __init__(
-        self, keys: int, epoch: int, patience: int, merge: int, versions: int, wait: int
+        self,
+        keys: int,
+        epoch: int,
+        patience: int,
+        merge: int,
+        versions: int,
+        wait: int,
+        source: Optional[Store] = None,
     ) -> None:
         self._closing = True  # until it is open
         self._is_forked = False
@@ -151,7 +105,11 @@ class Store:
         wait = min(wait, _LONGEST_WAIT)
         options = library.Options(keys, epoch, patience, merge, versions, wait)
         _remember(self)
-        self._check(library.store_open(ctypes.byref(options), self._handle._address))
+        address = self._handle._address
+        if source is None:
+            self._check(library.store_open(ctypes.byref(options), address))
+        else:
+            source._copy_into(options, address)
         self._check(library.caller_open(self._handle.pointer, self._main._address))
         for kind in _KINDS:
             self._open_caller(kind.start)
@@ -254,7 +212,7 @@ class Store:
 
     def _get(self, key: int, default: object) -> Any:
         found = library.Value()
-        return _value_of(found) if self._look_up(key, found) else default
+        return value_of(found) if self._look_up(key, found) else default
 
     def _has(self, key: int) -> bool:
         return self._look_up(key, None)
@@ -268,14 +226,14 @@ class Store:
         return code == OK
 
     def _get_many(self, keys: List[int]) -> List[Optional[Value]]:
-        numbers, values = _many(keys)
+        numbers, values = many_of(keys)
         count = len(numbers)
         if count <= _FEW_KEYS:
             code = self._exclusively(library.get_few, self._main.pointer, numbers, count, values)
         else:
             code = self._call(_READERS, library.get_many, numbers, count, values)
         self._check(code)
-        return [_value_of(value) for value in values]
+        return [value_of(value) for value in values]
 
     def _get_into(
         self, keys: memoryview, values: memoryview, default: int, found: memoryview
@@ -297,7 +255,7 @@ class Store:
         code = self._exclusively(call, self._main.pointer, *bounds, row)
         if code not in (OK, NOT_FOUND):
             self._refuse(code)
-        return _row_of(row)
+        return row_of(row)
 
     def _count(self, first: int, last: int) -> int:
         keys = ctypes.c_uint64()
@@ -313,7 +271,7 @@ class Store:
         pointer = self._main.pointer
         code = self._exclusively(call, pointer, start, end_of_range, rows, room, end)
         self._check(code)
-        return _page_of(rows, end)
+        return page_of(rows, end)
 
     def _stats(self) -> Tuple[int, ...]:
         found = library.Statistics()
@@ -340,11 +298,29 @@ class Store:
         code: int = library.sweep(self._handle.pointer)
         return code
 
+    # ---- Copying
+
+    def _copy_into(self, options: library.Options, address: object) -> None:
+        """Opens a store with its rows there. A caller is lent to it, so that the store is closed
+        after it."""
+
+        def copy(_: object) -> int:
+            pointer = self._handle.pointer
+            code: int = library.store_copy(pointer, ctypes.byref(options), address)
+            return code
+
+        code = self._call(_READERS, copy)
+        if code == Code.NO_SEAT:
+            self._note_try(code)
+            self._give_up_seats()
+            code = self._call(_READERS, copy)
+        self._check(code)
+
     # ---- Writes
 
     def _put(self, key: int, value: Value) -> None:
         number = key_of(key)
-        words = _array_of(value)
+        words = array_of(value)
         self._write(library.PUT, number, words, len(words))
 
     def _remove(self, key: int) -> None:
@@ -359,7 +335,7 @@ class Store:
     def _write_rows(self, rows: bytearray) -> None:
         """Writes a batch, and takes what it wrote out of it."""
         written = bytes(rows)
-        count = len(written) // _ROW.size
+        count = len(written) // ROW.size
         copied = (library.Row * count).from_buffer_copy(written)
         self._check(self._call_to_write(library.batch, copied, count))
         if rows.startswith(written):  # a handler of a signal may have written or cleared them
@@ -375,7 +351,7 @@ class Store:
 
     def _write_if(self, expected: bytes, counts: bytes, rows: bytes) -> Optional[int]:
         """Writes rows if the conditions hold: the place of the first one that does not."""
-        sizes = len(expected) // _ROW.size, len(counts) // _COUNT_SIZE, len(rows) // _ROW.size
+        sizes = len(expected) // ROW.size, len(counts) // _COUNT_SIZE, len(rows) // ROW.size
         unmet = ctypes.c_size_t()
         code = self._call_to_write(
             library.batch_if,
@@ -387,6 +363,17 @@ class Store:
         if code not in (OK, KEPT):
             self._refuse(code)
         return unmet.value if code == KEPT else None
+
+    def _remove_range(self, first: int, last: int, removed: List[int]) -> None:
+        """Removes keys; the first item of the list tells how many. Made again it goes on."""
+
+        def remove(caller: object) -> int:
+            part = ctypes.c_uint64()
+            code: int = library.remove_range(caller, first, last, ctypes.byref(part))
+            removed[0] += part.value
+            return code
+
+        self._check(self._call_to_write(remove))
 
     def _change(self, call: library.Call, *arguments: Any) -> Tuple[bool, library.Changed]:
         """Whether the call has written, and what the key had and has."""
@@ -406,16 +393,16 @@ class Store:
         return total
 
     def _put_if_absent(self, key: int, value: Value) -> Any:
-        _, changed = self._change(library.put_if_absent, key_of(key), _packed(value))
-        return _value_of(changed.after)
+        _, changed = self._change(library.put_if_absent, key_of(key), packed(value))
+        return value_of(changed.after)
 
     def _replace(
         self, key: int, expected: Optional[Value], desired: Optional[Value]
     ) -> Tuple[bool, Optional[Value], Optional[Value]]:
         """Whether it has written, and what the key had and has."""
-        arguments = key_of(key), _packed_or_none(expected), _packed_or_none(desired)
+        arguments = key_of(key), packed_or_none(expected), packed_or_none(desired)
         is_written, changed = self._change(library.replace, *arguments)
-        return is_written, _value_of(changed.before), _value_of(changed.after)
+        return is_written, value_of(changed.before), value_of(changed.after)
 
     # ---- Snapshots
 
@@ -513,7 +500,7 @@ class Snapshot:
 
     def _get(self, key: int, default: object) -> Any:
         found = library.Value()
-        return _value_of(found) if self._look_up(key, found) else default
+        return value_of(found) if self._look_up(key, found) else default
 
     def _has(self, key: int) -> bool:
         return self._look_up(key, None)
@@ -528,12 +515,12 @@ class Snapshot:
         return code == OK
 
     def _get_many(self, keys: List[int]) -> List[Optional[Value]]:
-        numbers, values = _many(keys)
+        numbers, values = many_of(keys)
         view = self._view
         with view.lock:
             code = library.snapshot_get_many(view.pointer, numbers, len(numbers), values)
         self._store._check(code)
-        return [_value_of(value) for value in values]
+        return [value_of(value) for value in values]
 
     def _get_into(
         self, keys: memoryview, values: memoryview, default: int, found: memoryview
@@ -555,7 +542,7 @@ class Snapshot:
             code = call(view.pointer, *bounds, row)
         if code not in (OK, NOT_FOUND):
             self._store._refuse(code)
-        return _row_of(row)
+        return row_of(row)
 
     def _count(self, first: int, last: int) -> int:
         keys = ctypes.c_uint64()
@@ -575,7 +562,7 @@ class Snapshot:
         with view.lock:
             code = call(view.pointer, start, end_of_range, rows, room, end)
         self._store._check(code)
-        return _page_of(rows, end)
+        return page_of(rows, end)
 
     def close(self) -> None:
         self._view.close_after_calls()
@@ -585,59 +572,6 @@ class Snapshot:
 
     def __exit__(self, *_: object) -> None:
         self.close()
-
-
-class Rows:
-    """The rows of a range, page by page."""
-
-    def __init__(
-        self,
-        reader: Union[Store, Snapshot],
-        first: int,
-        last: int,
-        room: int,
-        greatest_room: int,
-        is_own: bool,
-        falls: bool = False,
-    ) -> None:
-        self._reader: Union[Store, Snapshot, None] = reader
-        self._last = first if falls else last
-        self._falls = falls
-        self._greatest_room = greatest_room
-        self._is_own = is_own
-        self._lock = threading.RLock()
-        self._place: Place = iter(()), last if falls else first, room
-
-    def __iter__(self) -> Any:
-        return self
-
-    def __next__(self) -> Row:
-        while True:
-            place = self._place
-            row = next(place[0], None)
-            if row is not None:
-                return row
-            self._turn(place)
-
-    def _turn(self, place: Place) -> None:
-        """Reads the page behind this one, unless another thread has done so."""
-        with self._lock:
-            reader = self._reader
-            _, at, room = place
-            if self._place is not place:
-                return
-            if reader is None or at is None:
-                self.close()
-                raise StopIteration
-            page, following = reader._page(at, self._last, room, self._falls)
-            self._place = iter(page), following, min(2 * room, self._greatest_room)
-
-    def close(self) -> None:
-        reader = self._reader
-        self._reader = None
-        self._place = iter(()), None, 1
-        if self._is_own and isinstance(reader, Snapshot):
-            reader.close()
 
 
 # ---- Forks

@@ -108,6 +108,7 @@ DECLARED: Dict[str, Tuple[Any, Sequence[Any]]] = {
     "clsm_version": (c_char_p, []),
     "clsm_strerror": (c_char_p, [c_int]),
     "clsm_open": (c_int, [POINTER(Options), POINTER(_HANDLE)]),
+    "clsm_copy": (c_int, [_HANDLE, POINTER(Options), POINTER(_HANDLE)]),
     "clsm_close_at": (c_int, [POINTER(_HANDLE)]),
     "clsm_stats": (c_int, [_HANDLE, POINTER(Statistics)]),
     "clsm_sweep": (c_int, [_HANDLE]),
@@ -162,6 +163,7 @@ DECLARED: Dict[str, Tuple[Any, Sequence[Any]]] = {
             *(POINTER(Row), c_size_t, POINTER(c_size_t)),
         ],
     ),
+    "clsm_remove_range": (c_int, [_HANDLE, c_uint64, c_uint64, _WORDS]),
 }
 
 
@@ -213,6 +215,7 @@ class WriteCalls(NamedTuple):
 
 
 store_open: Call = _bind(_releasing, "clsm_open")
+store_copy: Call = _bind(_releasing, "clsm_copy")
 store_close_at: Call = _bind(_releasing, "clsm_close_at")
 stats: Call = _bind(_releasing, "clsm_stats")
 sweep: Call = _bind(_releasing, "clsm_sweep")
@@ -236,6 +239,7 @@ put_if_absent: Call = _bind(_releasing, "clsm_put_if_absent")
 replace: Call = _bind(_releasing, "clsm_replace")
 batch: Call = _bind(_releasing, "clsm_batch")
 batch_if: Call = _bind(_releasing, "clsm_batch_if")
+remove_range: Call = _bind(_releasing, "clsm_remove_range")
 
 snapshot_open: Call = _bind(_releasing, "clsm_snapshot_open")
 snapshot_close_at: Call = _bind(_keeping, "clsm_snapshot_close_at")

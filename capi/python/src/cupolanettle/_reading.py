@@ -9,6 +9,7 @@ from ._buffers import items_of, marks_in, room_in, words_in
 from ._values import Row, Value, key_of, range_of, word_of
 
 Default = TypeVar("Default")
+Itself = TypeVar("Itself", bound="Rows")
 
 _GREATEST_KEY = 2**64 - 1
 
@@ -26,14 +27,23 @@ class Rows(core.Rows):
     ((7, 70), None)
     """
 
+    def __enter__(self: Itself) -> Itself:
+        return self
+
+    def __exit__(self, *_: object) -> None:
+        self.close()
+
     def close(self) -> None:
         """Ends it, wherever it is; a scan of a store also closes its snapshot.
 
+        So does the end of its ``with``.
+
         >>> with Store() as store:
-        ...     store[7] = 70
-        ...     rows = store.scan()
-        ...     rows.close()
+        ...     store.update({3: 30, 7: 70})
+        ...     with store.scan() as rows:
+        ...         next(rows)
         ...     list(rows)
+        (3, 30)
         []
         """
         super().close()
@@ -211,8 +221,8 @@ class Reader:
     def count(self, start: Optional[int] = None, stop: Optional[int] = None) -> int:
         """How many keys from ``start`` on and below ``stop`` have a value; visits all of them.
 
-        Without ``start`` it begins at the least key; without ``stop`` there is no upper end. The greatest key is 2**64 - 1, so 2**64 is the
-        greatest bound.
+        Without ``start`` it begins at the least key; without ``stop`` there is no upper end. The
+        greatest key is 2**64 - 1, so 2**64 is the greatest bound.
 
         >>> with Store() as store:
         ...     for key in 3, 7, 20:

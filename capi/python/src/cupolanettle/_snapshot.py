@@ -2,7 +2,7 @@
 
 from __future__ import annotations
 
-from typing import ItemsView, Iterator, Mapping, Optional, ValuesView
+from typing import ItemsView, Iterator, KeysView, Mapping, Optional, ValuesView
 
 from . import _core as core
 from ._errors import Closed
@@ -12,6 +12,15 @@ from ._values import Row, Value
 # Short scans read little, long ones make few calls.
 FIRST_ROOM = 64
 GREATEST_ROOM = 1_024
+
+
+class Keys(KeysView[int]):
+    """The keys of a snapshot."""
+
+    _mapping: Snapshot
+
+    def __reversed__(self) -> Iterator[int]:
+        return reversed(self._mapping)
 
 
 class Items(ItemsView[int, Value]):
@@ -81,6 +90,17 @@ class Snapshot(core.Snapshot, Reader, Mapping[int, Value]):
     def __bool__(self) -> bool:
         """Whether a key has a value."""
         return next(self.scan(), None) is not None
+
+    def keys(self) -> KeysView[int]:
+        """The keys, by rising key: a view that can be gone over again, and reversed.
+
+        >>> with Store() as store:
+        ...     store.update({7: 70, 3: 30})
+        ...     with store.snapshot() as snapshot:
+        ...         list(snapshot.keys()), list(reversed(snapshot.keys()))
+        ([3, 7], [7, 3])
+        """
+        return Keys(self)
 
     def items(self) -> ItemsView[int, Value]:
         """The rows, by rising key: a view that can be gone over again.

@@ -22,8 +22,8 @@ class Statistics(NamedTuple):
     - ``epoch_writes``: writes of the current epoch, by that clock.
     - ``level_zero``, ``level_one``: entries of the runs, keys and old versions, before the last
       merge.
-    - ``room_for_keys``: so many more keys than level one has entries may have a value.
-    - ``room_for_versions``: so many more entries fit into level one.
+    - ``room_for_keys``: how many more keys may have a value than level one has entries.
+    - ``room_for_versions``: how many more entries fit into level one.
     - ``merges``, ``last_merge``, ``longest_merge``: how many were made, and how long they took.
     - ``waits``, ``longest_wait``: how often writes waited for room, and how long at most.
     - ``run_full``, ``versions_full``, ``no_seat``: how often writes and opens were refused so.

@@ -2,8 +2,6 @@
 
 from __future__ import annotations
 
-import math
-import operator
 import time
 from typing import (
     Any,
@@ -24,11 +22,20 @@ from . import _core as core
 from ._batch import Batch
 from ._codecs import AnyKeyCodec, AnyValueCodec
 from ._errors import Closed, Code, Conflict, Error
-from ._reading import Default, Reader, Rows
+from ._options import (
+    NO_DEFAULT,
+    SignatureOfInit,
+    error_of_option,
+    milliseconds,
+    option,
+    option_or_zero,
+    patience_of,
+)
+from ._reading import Default, Rows
 from ._snapshot import FIRST_ROOM, GREATEST_ROOM, Snapshot
 from ._statistics import Statistics, statistics_of
 from ._transaction import RANGE_COUNT, Transaction
-from ._values import Row, Value, word_of
+from ._values import Row, Value, rows_of, word_of
 from ._writing import Writer
 
 Itself = TypeVar("Itself", bound="Store")
@@ -39,42 +46,9 @@ AnyRows = Union[Mapping[int, Optional[Value]], Iterable[Tuple[int, Optional[Valu
 Bounds = Tuple[Optional[int], Optional[int]]
 Counts = Union[Mapping[Bounds, int], Iterable[Tuple[Bounds, int]]]
 
-_NO_DEFAULT = object()
-_GREATEST_OPTION = 2**31 - 1
-_OPTIONS: Dict[int, str] = {
-    Code.BAD_KEYS: "keys",
-    Code.BAD_EPOCH: "epoch",
-    Code.BAD_PATIENCE: "patience",
-    Code.BAD_VERSIONS: "versions",
-    Code.BAD_WAIT: "wait",
-}
-_MILLISECONDS = 1_000  # of a second
-_AT_ONCE = -1
-_FOR_EVER = 2**63 - 1
-_NO_PATIENCE = -1
-_FIRST_PAUSE = 10e-6  # seconds
+_COUNT = "a count is a pair of a range, which is a pair of bounds, and a number"
+_FIRST_PAUSE = 10e-6  # seconds, behind a conflict
 _LONGEST_PAUSE = 1e-3
-
-
-def _option(name: str, value: int, least: int) -> int:
-    number = operator.index(value)
-    if not least <= number <= _GREATEST_OPTION:
-        raise ValueError(f"{name} is out of range")
-    return number
-
-
-def _option_or_zero(name: str, value: Optional[int]) -> int:
-    """The option, or 0, which leaves the choice to the library."""
-    return 0 if value is None else _option(name, value, 1)
-
-
-def _milliseconds(wait: Optional[float]) -> int:
-    """How long the library is to wait, rounded up; it takes 0 for another choice."""
-    if wait is None:
-        return _FOR_EVER
-    if not 0 <= wait < math.inf:
-        raise ValueError("wait is out of range")
-    return min(math.ceil(wait * _MILLISECONDS), _FOR_EVER) or _AT_ONCE
 
 
 def _nothing(_: Optional[Value]) -> Optional[Value]:
@@ -82,7 +56,7 @@ def _nothing(_: Optional[Value]) -> Optional[Value]:
     return None
 
 
-class Store(core.Store, Writer, Reader):
+class Store(core.Store, Writer):
     """An ordered map in memory, for many threads, from ints to ints or tuples of ints.
 
     Keys and words are from 0 to 2**64 - 1. A value is an int, or a tuple of 2 to 8 ints.
@@ -99,7 +73,8 @@ class Store(core.Store, Writer, Reader):
     - ``merge_in_calls``: writes merge, instead of a thread of the store.
 
     The store takes all its memory at once: 37 MiB unless told otherwise. ``ValueError`` if an
-    option is out of range; :class:`Error` if memory ran out or the system started no thread.
+    option is out of range, ``TypeError`` if it is of another type or no codec; :class:`Error` if
+    memory ran out or the system started no thread.
 
     Any thread may call. A read waits for no write and no merge, and gives the map of one moment.
     Writes wait for other writes, and for a merge if the epoch is full. :class:`RunFull` if a write
@@ -135,8 +110,11 @@ class Store(core.Store, Writer, Reader):
 
     # A class with __getitem__ would otherwise be asked for the keys 0, 1, 2 ..
     __iter__: None = None
+    __reversed__: None = None
 
-    def __new__(cls: Type[Itself], **options: Any) -> Itself:
+    __signature__: ClassVar[Any] = SignatureOfInit()
+
+    def __new__(cls: Type[Itself], *_: Any, **options: Any) -> Itself:
         is_coded = options.get("key") is not None or options.get("value") is not None
         chosen: Type[Any] = cls._coded if cls is Store and is_coded else cls
         made: Itself = super().__new__(chosen)
@@ -153,21 +131,31 @@ class Store(core.Store, Writer, Reader):
         wait: Optional[float] = 1.0,
         patience: int = 64,
         merge_in_calls: bool = False,
+        _source: Optional[Store] = None,
     ) -> None:
+        self._options: Dict[str, Any] = dict(
+            keys=keys,
+            epoch=epoch,
+            versions=versions,
+            wait=wait,
+            patience=patience,
+            merge_in_calls=merge_in_calls,
+        )
         chosen = (
-            _option("keys", keys, 1),
-            _option_or_zero("epoch", epoch),
-            _option("patience", patience, 0) or _NO_PATIENCE,
+            option("keys", keys, 1),
+            option_or_zero("epoch", epoch),
+            patience_of(patience),
             int(bool(merge_in_calls)),
-            _option_or_zero("versions", versions),
-            _milliseconds(wait),
+            option_or_zero("versions", versions),
+            milliseconds(wait),
         )
         try:
-            super().__init__(*chosen)
+            super().__init__(*chosen, *(() if _source is None else (_source,)))
         except Error as error:
-            if error.code not in _OPTIONS:
+            wrong = error_of_option(error.code)
+            if wrong is None:
                 raise
-            raise ValueError(f"{_OPTIONS[error.code]} is out of range") from None
+            raise wrong from None
         self._choose_batches(epoch)
 
     def __repr__(self) -> str:
@@ -180,6 +168,31 @@ class Store(core.Store, Writer, Reader):
             f"{now.merges:,} merges, {now.snapshots:,} snapshots, room for "
             f"{now.room_for_keys:,} keys and {now.room_for_versions:,} versions>"
         )
+
+    def _codecs(self) -> Dict[str, Any]:
+        """The codecs of keys and values, by the names of the options."""
+        return {}
+
+    def copy(self, **options: Any) -> Store:
+        """A store of its own with all rows that this one has at one moment: a larger one, say.
+
+        It has the options of this store but for those that are given, and the same codecs. What is
+        written to this one later is not in it. It costs a read and a write of each row, and while
+        it runs it is a snapshot; other threads of the interpreter run meanwhile.
+
+        :class:`RunFull` if more keys have a value than the copy is to have; :class:`NoSeat`. Else
+        as for a store that is opened. Nothing is left of it then.
+
+        >>> with Store(keys=100) as store:
+        ...     store.update((key, 0) for key in range(100))
+        ...     with store.copy(keys=1_000) as larger:
+        ...         larger[100] = 0
+        ...         store.count(), larger.count()
+        (100, 101)
+        """
+        if not options.keys() <= self._options.keys():
+            raise TypeError(f"copy takes {', '.join(self._options)}")
+        return Store(**self._codecs(), **{**self._options, **options}, _source=self)
 
     def stats(self) -> Statistics:
         """What the store tells of itself: memory, what is open, room, merges, waits and refusals.
@@ -233,7 +246,8 @@ class Store(core.Store, Writer, Reader):
         """Writes each row of a mapping, or of an iterable of pairs, in its order.
 
         Each is a write of its own, so that threads see some of them before others; :meth:`batch`
-        makes all at one moment, and :meth:`put_many` is faster. What one of them raises ends it, with those before it written.
+        makes all at one moment, and :meth:`put_many` is faster. What one of them raises ends it,
+        with those before it written.
 
         >>> with Store() as store:
         ...     store.update({7: 70, 8: (80, 81)})
@@ -241,7 +255,7 @@ class Store(core.Store, Writer, Reader):
         ...     store.count(), store[7]
         (3, 0)
         """
-        for key, value in rows.items() if isinstance(rows, Mapping) else rows:
+        for key, value in rows_of(rows):
             self._put(key, value)
 
     def batch(self) -> Batch:
@@ -281,9 +295,7 @@ class Store(core.Store, Writer, Reader):
         [(1, 3), (2, 7)]
         """
         ranges = counts.items() if isinstance(counts, Mapping) else counts
-        packed = b"".join(
-            RANGE_COUNT.pack(*self._range(*bounds), word_of(keys)) for bounds, keys in ranges
-        )
+        packed = b"".join(map(self._pack_count, ranges))
         try:
             unmet = self._write_if(self._pack_all(expected), packed, self._pack_all(rows))
         except Error as error:
@@ -311,9 +323,9 @@ class Store(core.Store, Writer, Reader):
     def transact(self, function: Callable[[Transaction], Answer], tries: int = 100) -> Answer:
         """Runs the function on a transaction, again after a conflict. What the function answers.
 
-        It runs so many times at most, after pauses that grow up to a millisecond, and then it
-        raises :class:`Conflict`. So it should do nothing but read and write by its transaction.
-        What it raises ends it, and nothing is written.
+        It runs so many times at most, and once at least, after pauses that grow up to a
+        millisecond, and then it raises :class:`Conflict`. So it should do nothing but read and
+        write by its transaction. What it raises ends it, and nothing is written.
 
         >>> with Store() as store:
         ...     def count(t):
@@ -322,9 +334,11 @@ class Store(core.Store, Writer, Reader):
         ...     store.transact(count), store.transact(count)
         (1, 2)
         """
+        pause = 0.0
         for made in range(max(tries, 1)):
             if made > 0:
-                time.sleep(min(_FIRST_PAUSE * 2**made, _LONGEST_PAUSE))
+                pause = min(2 * pause or _FIRST_PAUSE, _LONGEST_PAUSE)
+                time.sleep(pause)
             transaction = Transaction(self)
             try:
                 answer = function(transaction)
@@ -335,8 +349,19 @@ class Store(core.Store, Writer, Reader):
         raise Conflict(Code.CONFLICT)
 
     def _pack_all(self, rows: AnyRows) -> bytes:
-        pairs = rows.items() if isinstance(rows, Mapping) else rows
-        return b"".join(self._pack(key, value) for key, value in pairs)
+        return b"".join(self._pack(key, value) for key, value in rows_of(rows))
+
+    def _pack_count(self, count: Tuple[Bounds, int]) -> bytes:
+        try:
+            (start, stop), keys = count
+        except TypeError:
+            raise TypeError(_COUNT) from None
+        except ValueError:
+            raise ValueError(_COUNT) from None
+        return RANGE_COUNT.pack(*self._range(start, stop), word_of(keys))
+
+    def _plain_end(self, first: int, last: int, falls: bool) -> Optional[Row]:
+        return core.Store._end(self, first, last, falls)
 
     # ---- Changes
 
@@ -407,7 +432,7 @@ class Store(core.Store, Writer, Reader):
     @overload
     def pop(self, key: int, default: Default) -> Union[Value, Default]: ...
 
-    def pop(self, key: int, default: object = _NO_DEFAULT) -> object:
+    def pop(self, key: int, default: object = NO_DEFAULT) -> object:
         """Removes the key. The value that it had.
 
         If it had none, the default, or ``KeyError`` without one; that takes no room.
@@ -421,7 +446,7 @@ class Store(core.Store, Writer, Reader):
         value = self._alter(key, _nothing)[0]
         if value is not None:
             return value
-        if default is _NO_DEFAULT:
+        if default is NO_DEFAULT:
             raise KeyError(key)
         return default
 
@@ -470,9 +495,10 @@ class Store(core.Store, Writer, Reader):
         """A snapshot's iterator: the rows from ``start`` on and below ``stop``, all of one moment.
 
         A row is a key and its value; they come by rising key, or by falling key, where each costs
-        more. Without ``stop`` there is no upper end. The scan opens a snapshot, and closes it behind the last row: a loop that writes as it
-        reads may come to :class:`OwnSnapshot`, and :meth:`walk` is for that. A scan that is left
-        before its end stays open until nothing refers to it any more, or until its ``close``.
+        more. Without ``stop`` there is no upper end. The scan opens a snapshot, and closes it
+        behind the last row: a loop that writes as it reads may come to :class:`OwnSnapshot`, and
+        :meth:`walk` is for that. A scan that is left before its end stays open until nothing refers
+        to it any more, until its ``close``, or until the end of its ``with``.
 
         >>> with Store() as store:
         ...     for key in 20, 3, 7:

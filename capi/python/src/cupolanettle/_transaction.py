@@ -11,6 +11,7 @@ from typing import (
     Iterable,
     Iterator,
     List,
+    Mapping,
     NoReturn,
     Optional,
     Tuple,
@@ -22,7 +23,7 @@ from typing import (
 
 from . import _core as core
 from ._errors import Code, Conflict, Error
-from ._values import Row, Value
+from ._values import NONE, Row, Value, rows_of
 
 if TYPE_CHECKING:
     from ._reading import Default
@@ -33,8 +34,17 @@ Itself = TypeVar("Itself", bound="Transaction")
 
 # A range, and how many of its keys have a value, as the library has them.
 RANGE_COUNT = struct.Struct("=3Q")
+_ROW = struct.Struct("=10Q")
 _ROWS_AT_A_TIME = 64
-_NO_DEFAULT = object()
+
+
+def _words_in(packed: bytes) -> Optional[Value]:
+    """The value in a row as the library has it; ``None`` stands for no value."""
+    numbers: Tuple[int, ...] = _ROW.unpack(packed)
+    count, first = numbers[1], 2
+    if count == 0:
+        return None
+    return numbers[first] if count == 1 else numbers[first : first + count]
 
 
 class Transaction:
@@ -56,6 +66,9 @@ class Transaction:
     ...     list(store.scan())
     [(1, 7), (2, 3)]
     """
+
+    # A class with __getitem__ would otherwise be asked for the keys 0, 1, 2 ..
+    __iter__: None = None
 
     def __init__(self, store: Store) -> None:
         self._store = store
@@ -139,10 +152,11 @@ class Transaction:
         return self._read([self._store._number(key)])[0] is not None
 
     def scan(self, start: Optional[int] = None, stop: Optional[int] = None) -> Iterator[Row]:
-        """The rows from ``start`` on and below ``stop``, by rising key, with its own writes so far.
+        """The rows from ``start`` on and below ``stop``, by rising key, with its own writes.
 
         It has read the range up to the last row that it gave, or to its end: what others change
-        there is a conflict.
+        there is a conflict. What it writes behind the first row is for the next scan.
+        ``RuntimeError`` if the transaction has ended since then.
 
         >>> with Store() as store:
         ...     store.update({3: 30, 7: 70})
@@ -156,33 +170,38 @@ class Transaction:
 
     def _scan(self, first: int, last: int) -> Iterator[Row]:
         store = self._store
-        own = sorted(number for number in self._writes if first <= number <= last)
+        writes = self._writes
+        numbers = sorted(number for number in writes if first <= number <= last)
+        own = {number: writes[number][0] for number in numbers}
         covered = [1, 0, 0]  # so far: no key, of which none has a value
-        self._ranges.append(covered)
+        ranges = self._ranges
+        ranges.append(covered)
         for number, words, is_there in self._merged(first, last, own):
             covered[:] = first, number, covered[2] + is_there
             if words is not None:
                 yield store._key_of(number), store._decoded(words)
+                if self._ranges is not ranges:
+                    raise RuntimeError("the transaction ended during the scan")
         covered[:] = first, last, covered[2]
 
     def _merged(
-        self, first: int, last: int, own: List[int]
+        self, first: int, last: int, own: Dict[int, Optional[Value]]
     ) -> Iterator[Tuple[int, Optional[Value], bool]]:
-        """The keys that the snapshot has and that it has written, each with what it has to it, and
-        whether the snapshot has it."""
+        """The keys that the snapshot has and its own, each with what it has, and whether the snapshot
+        has it."""
         places = iter(own)
         mine = next(places, None)
         rows = core.Rows(self._reader(), first, last, _ROWS_AT_A_TIME, _ROWS_AT_A_TIME, False)
         for number, words in rows:
             while mine is not None and mine < number:
-                yield mine, self._writes[mine][0], False
+                yield mine, own[mine], False
                 mine = next(places, None)
             self._reads[number] = words
-            yield number, self._found(number), True
+            yield number, own.get(number, words), True
             if mine == number:
                 mine = next(places, None)
         while mine is not None:
-            yield mine, self._writes[mine][0], False
+            yield mine, own[mine], False
             mine = next(places, None)
 
     # ---- Writes, which nobody sees before its end
@@ -198,12 +217,26 @@ class Transaction:
         (False, (70, 71))
         """
         if value is None:
-            raise TypeError("None is no value; remove removes a key")
+            raise TypeError(NONE)
         self._note(key, value)
+
+    def update(self, rows: Union[Mapping[int, Value], Iterable[Row]]) -> None:
+        """Notes a write of each row of a mapping, or of an iterable of pairs, in its order.
+
+        What one of them raises ends it, with those before it noted.
+
+        >>> with Store() as store:
+        ...     with store.transaction() as t:
+        ...         t.update({7: 70, 8: (80, 81)})
+        ...     list(store.scan())
+        [(7, 70), (8, (80, 81))]
+        """
+        for key, value in rows_of(rows):
+            self[key] = value
 
     def _note(self, key: int, value: Optional[Value]) -> None:
         packed = self._store._pack(key, value)
-        self._writes[self._store._number(key)] = self._store._encoded(value), packed
+        self._writes[self._store._number(key)] = _words_in(packed), packed
 
     def remove(self, key: int) -> None:
         """Notes the removal of the key, whether or not it has a value.
@@ -216,6 +249,20 @@ class Transaction:
         (False, True)
         """
         self._note(key, None)
+
+    def add(self, key: int, by: int = 1) -> Value:
+        """Adds to the int that the key has to it, or to 0 if it has no value. The sum.
+
+        It reads the key, and notes the sum. Raises what :meth:`Store.add` raises of its arguments,
+        and then notes nothing.
+
+        >>> with Store() as store, store.transaction() as t:
+        ...     t.add(7), t.add(7, 5), t[7]
+        (1, 6, 6)
+        """
+        total = self._store._sum(self.get(key), by)
+        self[key] = total
+        return total
 
     def __delitem__(self, key: int) -> None:
         """Notes the removal of the key; ``KeyError`` if it has no value.
@@ -290,6 +337,9 @@ class Transaction:
             self.commit()
         else:
             self.cancel()
+
+    def __repr__(self) -> str:
+        return f"<Transaction of {len(self._writes)} writes>"
 
     def __reduce__(self) -> NoReturn:
         raise TypeError("a Transaction cannot be copied or pickled")

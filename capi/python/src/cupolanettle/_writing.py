@@ -1,20 +1,24 @@
-"""Writes of many keys."""
+"""Writes of many keys, in several batches."""
 
 from __future__ import annotations
 
 from itertools import islice
 from typing import Any, Iterable, List, Mapping, Optional, Union, overload
 
+from . import _core as core
 from ._buffers import words_in
 from ._errors import Error
-from ._values import Row, Value
+from ._reading import Reader
+from ._transaction import RANGE_COUNT
+from ._values import NONE, Row, Value, rows_of, word_of
 
 # Rows of a batch, if the epoch has four times as much room.
 _BATCH = 256
 _LEAST_EPOCH = 4_096  # of those that are not given
+_GREATEST_WORD = 2**64 - 1
 
 
-class Writer:
+class Writer(Reader):
     """Writes many keys, in batches that leave most of an epoch's room to other writes."""
 
     _batch_rows = _BATCH
@@ -27,8 +31,28 @@ class Writer:
     ) -> None:
         raise NotImplementedError
 
+    def _remove_range(self, first: int, last: int, removed: List[int]) -> None:
+        raise NotImplementedError
+
     def _pack(self, key: int, value: Optional[Value]) -> bytes:
         raise NotImplementedError
+
+    def _write_if(self, expected: bytes, counts: bytes, rows: bytes) -> Optional[int]:
+        raise NotImplementedError
+
+    def _plain_end(self, first: int, last: int, falls: bool) -> Optional[Row]:
+        """As :meth:`_end`, without codecs."""
+        raise NotImplementedError
+
+    def _sum(self, old: Optional[Value], by: int) -> Value:
+        """What the key has once this was added."""
+        added = word_of(by)
+        if isinstance(old, tuple):
+            raise ValueError("a tuple cannot be added to")
+        total = (old or 0) + added
+        if total > _GREATEST_WORD:
+            raise OverflowError("the sum is greater than 2**64 - 1")
+        return total
 
     def _choose_batches(self, epoch: Optional[int]) -> None:
         self._batch_rows = max(1, min(_BATCH, (_LEAST_EPOCH if epoch is None else epoch) // 4))
@@ -63,7 +87,7 @@ class Writer:
         [(7, 70), (8, (80, 81)), (9, 90)]
         """
         if words is None:
-            self._put_rows(rows.items() if isinstance(rows, Mapping) else rows)
+            self._put_rows(rows_of(rows))
             return
         written = [0]
         with words_in("keys", rows) as keys, words_in("words", words) as values:
@@ -77,7 +101,8 @@ class Writer:
         written = 0
         left = iter(pairs)
         while True:
-            packed = [self._pack_value(*row) for row in islice(left, self._batch_rows)]
+            next_rows = islice(left, self._batch_rows)
+            packed = [self._pack_value(key, value) for key, value in next_rows]
             if not packed:
                 return
             try:
@@ -89,5 +114,77 @@ class Writer:
 
     def _pack_value(self, key: int, value: Value) -> bytes:
         if value is None:
-            raise TypeError("None is no value; remove removes a key")
+            raise TypeError(NONE)
         return self._pack(key, value)
+
+    def remove_range(self, start: Optional[int] = None, stop: Optional[int] = None) -> int:
+        """Removes the keys from ``start`` on and below ``stop``. How many it removed.
+
+        It is not one moment: it reads pages of up to 64 rows, and removes the keys of each by a
+        batch, so that threads see some of the keys gone and some not yet. It removes a key that it
+        has read with whatever value the key has by then; one that gets its first value where it has
+        read already may stay. :meth:`retain` removes no value that it was not shown. Other threads
+        of the interpreter run meanwhile.
+
+        It waits as writes do. :class:`VersionsFull`, or :class:`Error` if memory ran out: the
+        exception's ``written`` says how many keys were removed, and the same call goes on.
+
+        >>> with Store() as store:
+        ...     store.put_many({key: 0 for key in range(500)})
+        ...     store.remove_range(100, 400), store.remove_range(100, 400), store.count()
+        (300, 0, 200)
+        """
+        removed = [0]
+        try:
+            self._remove_range(*self._range(start, stop), removed)
+        except Error as error:
+            error.written = removed[0]
+            raise
+        return removed[0]
+
+    def pop_first(self, start: Optional[int] = None, stop: Optional[int] = None) -> Optional[Row]:
+        """Removes the least key from ``start`` on and below ``stop``. Its row; ``None`` without one.
+
+        It is one step: at that moment the row was the first of these, and so threads that take rows
+        out get each of them once. It reads the row, and removes it by a :meth:`batch_if` that no
+        other key is before it; both again, while other writes come between. :class:`Error` as for
+        :meth:`remove`, with nothing removed.
+
+        >>> with Store() as store:
+        ...     store.update({8: 80, 3: 30, 5: 50})
+        ...     store.pop_first(4), store.pop_first(4, 8), store.count()
+        ((5, 50), None, 2)
+        """
+        return self._pop(*self._range(start, stop), False)
+
+    def pop_last(self, start: Optional[int] = None, stop: Optional[int] = None) -> Optional[Row]:
+        """Removes the greatest key from ``start`` on and below ``stop``, as :meth:`pop_first`.
+
+        >>> with Store() as store:
+        ...     store.update({8: 80, 3: 30, 5: 50})
+        ...     store.pop_last(), store.pop_last(0, 3), store.count()
+        ((8, 80), None, 2)
+        """
+        return self._pop(*self._range(start, stop), True)
+
+    def _pop(self, first: int, last: int, falls: bool) -> Optional[Row]:
+        while True:
+            row = self._plain_end(first, last, falls)
+            if row is None:
+                return None
+            number, words = row
+            before = (number + 1, last) if falls else (first, number - 1)
+            is_first = number == (last if falls else first)
+            count = RANGE_COUNT.pack(*((1, 0) if is_first else before), 0)
+            if self._write_if(core.pack(number, words), count, core.pack(number, None)) is None:
+                return self._key_of(number), self._decoded(words)
+
+    def clear(self) -> int:
+        """Removes all keys, as :meth:`remove_range`: that is not one moment. How many it removed.
+
+        >>> with Store() as store:
+        ...     store[7] = 70
+        ...     store.clear(), store.count()
+        (1, 0)
+        """
+        return self.remove_range()

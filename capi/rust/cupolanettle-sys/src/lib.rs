@@ -313,6 +313,10 @@ unsafe extern "C" {
     /// Merges all that was written so far.
     pub fn clsm_sweep(store: *mut Store) -> c_int;
 
+    /// Opens a store with all rows that the other one has at one moment.
+    pub fn clsm_copy(from: *mut Store, options_or_null: *const Options,
+        to: *mut *mut Store) -> c_int;
+
     /// What the store tells of itself.
     pub fn clsm_stats(store: *mut Store, statistics: *mut Statistics) -> c_int;
 
@@ -357,6 +361,19 @@ unsafe extern "C" {
     pub fn clsm_batch_if(caller: *mut Caller, expected: *const Row, expected_count: usize,
         counts: *const RangeCount, counts_count: usize, rows: *const Row, count: usize,
         unmet_or_null: *mut usize) -> c_int;
+
+    /// Removes the keys of a range, batch by batch.
+    pub fn clsm_remove_range(caller: *mut Caller, first: u64, last: u64,
+        removed_or_null: *mut u64) -> c_int;
+
+    /// Removes all keys, batch by batch.
+    pub fn clsm_clear(caller: *mut Caller, removed_or_null: *mut u64) -> c_int;
+
+    /// Removes the least key of a range that has a value, and leaves its row.
+    pub fn clsm_pop_first(caller: *mut Caller, first: u64, last: u64, row: *mut Row) -> c_int;
+
+    /// Removes the greatest key of a range that has a value, and leaves its row.
+    pub fn clsm_pop_last(caller: *mut Caller, first: u64, last: u64, row: *mut Row) -> c_int;
 
     // ---- changes
 

@@ -245,7 +245,8 @@ pub enum TryError {
 
 /// Why [`retain`](crate::Caller::retain), [`remove_range`](crate::Caller::remove_range) or
 /// [`clear`](crate::Caller::clear) did not come to the end of its range. Rows that it removed
-/// before are removed.
+/// before are removed. Also why [`pop_first`](crate::Caller::pop_first) or
+/// [`pop_last`](crate::Caller::pop_last) removed none.
 ///
 /// ```
 /// use cupolanettle::{Error, Options, RetainError};

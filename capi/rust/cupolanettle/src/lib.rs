@@ -70,7 +70,7 @@
 //! store keeps old versions meanwhile. [`Caller::walk`] goes without one, for loops that write as
 //! they read. It is weakly consistent, as iterators of concurrent skip lists are: it reads up to 64
 //! rows at a time, each time as they are by then. [`Caller::retain`] removes rows as it walks;
-//! [`Caller::remove_range`] and [`Caller::clear`] remove all, page by page.
+//! [`Caller::remove_range`] and [`Caller::clear`] remove all, batch by batch.
 //!
 //! ```
 //! # use cupolanettle::{Error, Options};
@@ -166,8 +166,11 @@
 //! `rev`, `last_key_value` | those of a [`Range`]; [`Caller::page_down`]; [`Caller::last_key_value`]
 //! `RocksDB`'s `multi_get`, etcd's `Txn` | [`Caller::get_many`], [`Caller::batch_if`]
 //! `len` | [`Caller::count`], which visits the keys
+//! `pop_first`, `pop_last` | [`Caller::pop_first`], [`Caller::pop_last`]
 //! `extend`, `collect` | those of a [`Batch`], at most as long as an epoch
 //! `clear`, `retain` | [`Caller::clear`], [`Caller::retain`], which are not one moment
+//! `RocksDB`'s `delete_range` | [`Caller::remove_range`], which is not one moment
+//! `clone` of a map, `RocksDB`'s checkpoints | [`Snapshot::copy_to`]
 //! dashmap's `alter`, `entry`, `iter` | [`Caller::update`], [`Caller::get_or_insert_with`], [`Caller::walk`]
 //! crossbeam's `SkipMap::front`, `get_or_insert_with` | [`Caller::first_key_value`], [`Caller::get_or_insert_with`]
 //! an atomic's `fetch_add`, `compare_exchange`, `fetch_update` | [`Caller::add`], [`Caller::replace`], [`Caller::update`]

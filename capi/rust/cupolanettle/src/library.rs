@@ -379,6 +379,32 @@ impl Handle<raw::Caller> {
         unsafe { raw::clsm_batch(self.place(), rows.as_ptr(), rows.len()) }
     }
 
+    /// Removes the keys of the range, batch by batch; the second is how many it has removed.
+    pub(crate) fn remove_range(&self, keys: Keys) -> (Code, u64) {
+        let Keys { first, last } = keys;
+        let mut removed = 0;
+        // SAFETY: as in `number`, and `removed` is of this frame.
+        let code = unsafe { raw::clsm_remove_range(self.place(), first, last, &raw mut removed) };
+        (code, removed)
+    }
+
+    /// Removes the first row of the range, and answers it.
+    pub(crate) fn pop_first(&self, keys: Keys) -> (Code, raw::Row) {
+        let mut row = raw::Row::default();
+        // SAFETY: as in `number`, and `row` is of this frame.
+        let code =
+            unsafe { raw::clsm_pop_first(self.place(), keys.first, keys.last, &raw mut row) };
+        (code, row)
+    }
+
+    /// Removes the last row of the range, and answers it.
+    pub(crate) fn pop_last(&self, keys: Keys) -> (Code, raw::Row) {
+        let mut row = raw::Row::default();
+        // SAFETY: as in `pop_first`.
+        let code = unsafe { raw::clsm_pop_last(self.place(), keys.first, keys.last, &raw mut row) };
+        (code, row)
+    }
+
     /// Writes the rows if the conditions hold; else the second is the place of the first that does
     /// not.
     pub(crate) fn batch_if(

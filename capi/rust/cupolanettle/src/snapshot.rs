@@ -371,7 +371,7 @@ impl Snapshot {
         let mut left = Some(Keys::of(&..));
         while let Some(keys) = left {
             let next = self.handle.page(keys, ROWS_AT_A_TIME, &mut rows)?;
-            caller.write_rows::<CopyError>(&rows)?;
+            caller.write_rows(&rows)?;
             copied += rows.len() as u64;
             left = next.map(|first| Keys { first, ..keys });
         }

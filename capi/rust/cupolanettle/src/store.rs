@@ -24,7 +24,7 @@ const NANOSECONDS: u128 = 1_000_000;
 /// use cupolanettle::{OpenError, Options};
 /// use std::time::Duration;
 ///
-/// let store = Options::new().keys(1_000_000).wait(Duration::from_secs(10)).open()?; // 264 MiB
+/// let store = Options::new().keys(1_000_000).wait(Duration::from_secs(10)).open()?; // 263 MiB
 /// # drop(store);
 /// # Ok::<(), OpenError>(())
 /// ```

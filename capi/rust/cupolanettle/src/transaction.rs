@@ -7,6 +7,9 @@ use cupolanettle_sys as raw;
 use std::fmt;
 use std::ops::RangeBounds;
 
+/// A page is read in parts of so many rows.
+const ROWS_OF_A_PART: usize = 1_024;
+
 /// Reads the map of one moment, which is that of its first read, with its own writes in it. They
 /// are made at one later moment, if all that it read still has the same values then.
 ///
@@ -95,7 +98,7 @@ impl<'a> Transaction<'a> {
 
     /// The first rows of the range by rising key, at most so many, with its own writes among them.
     /// It has read the range up to the key that is told as the next one, or all of it: what others
-    /// change there is a conflict. It takes memory for so many rows.
+    /// change there is a conflict. It takes memory for the rows that there are.
     ///
     /// # Errors
     ///
@@ -118,15 +121,34 @@ impl<'a> Transaction<'a> {
         keys: impl RangeBounds<u64>,
         most: usize,
     ) -> Result<Page, TransactError> {
+        let mut page = Page::default();
+        let mut left = Keys::of(&keys);
+        loop {
+            let room = ROWS_OF_A_PART.min(most - page.rows.len());
+            page.next = self.read_part(left, room, &mut page.rows)?;
+            match page.next {
+                Some(first) if page.rows.len() < most => left.first = first,
+                _ => return Ok(page),
+            }
+        }
+    }
+
+    /// Adds the first rows of the range, up to so many, and answers the key of the next one. Parts
+    /// that follow one another are of one moment.
+    fn read_part(
+        &mut self,
+        keys: Keys,
+        room: usize,
+        rows: &mut Vec<(u64, Value)>,
+    ) -> Result<Option<u64>, TransactError> {
         let mut read = Vec::new();
-        let mut rows = Vec::new();
-        read.try_reserve_exact(most).map_err(|_| Memory)?;
-        rows.try_reserve_exact(most).map_err(|_| Memory)?;
-        read.resize(most, raw::Row::default());
-        match self.open.page(Keys::of(&keys), &mut read) {
+        read.try_reserve_exact(room).map_err(|_| Memory)?;
+        rows.try_reserve(room).map_err(|_| Memory)?;
+        read.resize(room, raw::Row::default());
+        match self.open.page(keys, &mut read) {
             (raw::OK, end) => {
                 rows.extend(read.iter().filter_map(pair));
-                Ok(Page { rows, next: end.more.then_some(end.next) })
+                Ok(end.more.then_some(end.next))
             }
             (code, _) => Err(TransactError::of(code)),
         }

@@ -104,6 +104,29 @@ impl TryFrom<&[u64]> for Value {
     }
 }
 
+impl TryFrom<Vec<u64>> for Value {
+    type Error = BadValue;
+
+    fn try_from(words: Vec<u64>) -> Result<Value, BadValue> {
+        Value::try_from(&words[..])
+    }
+}
+
+impl From<Value> for Vec<u64> {
+    fn from(value: Value) -> Vec<u64> {
+        value.to_vec()
+    }
+}
+
+impl<'a> IntoIterator for &'a Value {
+    type Item = &'a u64;
+    type IntoIter = std::slice::Iter<'a, u64>;
+
+    fn into_iter(self) -> std::slice::Iter<'a, u64> {
+        self.iter()
+    }
+}
+
 impl Deref for Value {
     type Target = [u64];
 

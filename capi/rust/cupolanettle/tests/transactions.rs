@@ -1,6 +1,9 @@
 //! Transactions: what one reads of its own and of others, what ends it, and that those of several
 //! threads have the effect that they have one after another.
-use cupolanettle::{Conflict, Error, NoSeat, Options, Refused, Store, TransactError, Value};
+use cupolanettle::{
+    Batch, Conditions, Conflict, Error, NoSeat, Options, Refused, Store, TransactError, Value,
+};
+use std::ops::Bound;
 use std::thread;
 
 const EPOCH: usize = 64;
@@ -71,6 +74,54 @@ fn one_runs_again_where_others_were_faster() -> Result<(), Error> {
         Ok::<_, Error>(first == t.get_many(&[1])?[0])
     })?;
     assert!(seen);
+    Ok(())
+}
+
+#[test]
+fn two_of_one_caller_are_two() -> Result<(), Error> {
+    let store = small().open()?;
+    let caller = store.caller()?;
+    let mut runs = 0;
+    let sums = caller.transact(|outer| {
+        runs += 1;
+        let seen = word(outer.get(1)?);
+        let inner = match runs {
+            1 => caller.transact(|t| t.add(1, 10))?,
+            _ => caller.transact(|t| t.add(2, 1))?,
+        };
+        assert_eq!(word(outer.get(1)?), seen);
+        assert_eq!(outer.get(3)?, None);
+        outer.put(3, seen)?;
+        Ok::<_, Error>((seen, inner))
+    })?;
+    assert_eq!((runs, sums), (2, (10, Some(1))));
+    assert_eq!(caller.page(.., 9)?.rows, [(1, 10.into()), (2, 1.into()), (3, 10.into())]);
+    assert_eq!(store.stats().snapshots, 0);
+    Ok(())
+}
+
+#[test]
+fn keys_at_both_ends() -> Result<(), Error> {
+    let caller = small().open()?.caller()?;
+    let ends = [0, 1, u64::MAX - 1, u64::MAX];
+    for key in ends {
+        caller.put(key, key)?;
+    }
+    let above = (Bound::Excluded(u64::MAX), Bound::Unbounded);
+    let rows = caller.transact(|t| {
+        assert_eq!((t.page(above, 9)?.rows.len(), t.page(..0, 9)?.rows.len()), (0, 0));
+        assert_eq!(t.page(u64::MAX.., 0)?.next, Some(u64::MAX));
+        assert_eq!(t.page(1..u64::MAX, 9)?.rows.len(), 2);
+        t.remove(0)?;
+        t.remove(u64::MAX)?;
+        assert_eq!(t.add(u64::MAX - 1, 2)?, None);
+        assert_eq!(t.get_many(&[u64::MAX, u64::MAX, 1])?, [None, None, Some(1.into())]);
+        Ok::<_, Error>(t.page(.., 9)?.rows)
+    })?;
+    assert_eq!(rows, [(1, 1.into()), (u64::MAX - 1, (u64::MAX - 1).into())]);
+    let mut conditions = Conditions::new();
+    conditions.count(above, 0).count(..0, 0).count(.., 2).count(u64::MAX.., 0);
+    caller.batch_if(&conditions, &Batch::new())?;
     Ok(())
 }
 
@@ -193,4 +244,44 @@ fn bounds_where_a_thread_merges() -> Result<(), Error> {
 #[test]
 fn bounds_where_calls_merge() -> Result<(), Error> {
     bounds_are_kept(small().merge_in_calls())
+}
+
+/// A page has the rows that there are, however many it may have, and is of one moment: it conflicts
+/// with what comes into any part of it.
+#[test]
+fn pages_without_a_bound() -> Result<(), Error> {
+    let store = small().open()?;
+    let (caller, other) = (store.caller()?, store.caller()?);
+    for key in 0..1_500 {
+        caller.put(2 * key, key)?;
+    }
+    for most in [1_024, 1_025, 1_500, 1_501, 1_502, usize::MAX] {
+        let page = caller.transact(|t| {
+            t.remove(0)?;
+            t.put(7, 70)?;
+            t.put(5_001, 1)?;
+            let page = t.page(.., most)?;
+            t.put(7, 71)?;
+            assert_eq!(t.get(7)?, Some(71.into()));
+            t.remove(7)?;
+            t.remove(5_001)?;
+            t.put(0, 0)?;
+            Ok::<_, Error>(page)
+        })?;
+        let rows = most.min(1_501);
+        assert_eq!(page.rows.len(), rows);
+        assert_eq!(page.next.is_some(), most < 1_501);
+        assert!(page.rows.windows(2).all(|pair| pair[0].0 < pair[1].0));
+        assert_eq!((page.rows[0], page.rows[3]), ((2, 1.into()), (7, 70.into())));
+    }
+    for into in [1, 2_047, 2_049, 9_999] {
+        let ended = caller.transact_up_to(1, |t| {
+            t.page(.., usize::MAX)?;
+            t.put(3, 30)?;
+            other.put(into, 1).map_err(TransactError::from)
+        });
+        assert_eq!(ended, Err(TransactError::Conflict));
+        other.remove(into)?;
+    }
+    Ok(())
 }

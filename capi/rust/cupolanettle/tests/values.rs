@@ -53,3 +53,16 @@ fn keep_their_words_through_merges() -> Result<(), Error> {
     }
     Ok(())
 }
+
+#[test]
+fn are_gone_over() {
+    let value = Value::from([1, 2, 3]);
+    let mut sum = 0;
+    for word in &value {
+        sum += word;
+    }
+    assert_eq!((sum, (&value).into_iter().len()), (6, 3));
+    assert_eq!(Vec::from(value), [1, 2, 3]);
+    assert_eq!(Value::try_from(vec![1, 2, 3]), Ok(value));
+    assert_eq!(Value::try_from(Vec::new()), Err(BadValue));
+}

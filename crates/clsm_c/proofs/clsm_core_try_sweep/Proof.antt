@@ -7,8 +7,8 @@ use Rattle.clsm_c.specs.contracts.types.CoreTime as answered
 use Rattle.clsm_c.proofs.Exporting.{single}
 use Rattle.clsm_c.proofs.Lent.{lent}
 use Rattle.clsm_c.proofs.Passed.{answer, value}
-use Rattle.clsm_c.proofs.calls.try_sweep.Symbol.{name as safe}
-use Rattle.clsm_c.proofs.calls.try_sweep.Met as of_thm
+use Rattle.clsm_c.proofs.merging.try_sweep.Symbol.{name as safe}
+use Rattle.clsm_c.proofs.merging.try_sweep.Met as of_thm
 use Rattle.clsm_c.specs.contracts.clsm_core_try_sweep.Key.{name as key}
 use Rattle.clsm_c.proofs.clsm_core_try_sweep.Statement.{statement}
 use Rattle.clsm_c.proofs.clsm_core_try_sweep.Code as code
@@ -18,4 +18,4 @@ clsm_core_try_sweep_spec 𝓤 𝓛 𝓜 𝓡 wired =
     lent (single handle.the_row tt) (value asked.the_row) (answer answered.the_row)
     (λ old ask new answer code. ByMerger (λ before after. Told (TrySweeps ask.used before after) (TellsSweep answer code))
     old.merger new.merger code)
-    safe 𝓛 𝓜 𝓡 key (code.unfolded 𝓤 𝓛.H 𝓜 𝓡 wired) (of_thm.met 𝓤 𝓛 𝓜 𝓡 (code.calls-clsm_c::calls::try_sweep 𝓡.env wired))
+    safe 𝓛 𝓜 𝓡 key (code.unfolded 𝓤 𝓛.H 𝓜 𝓡 wired) (of_thm.met 𝓤 𝓛 𝓜 𝓡 (code.calls-clsm_c::merging::try_sweep 𝓡.env wired))

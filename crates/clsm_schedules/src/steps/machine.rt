@@ -5,8 +5,8 @@ use crate::steps::sizes::SIZES;
 use crate::steps::wrong::Wrong;
 use clsm_law::{Event, Layout, Step, StepError, Word};
 use clsm_machine::World;
-use clsm_model::{CallRecord, Deal};
-use clsm_planner::{AsCalled, Caller, Merging, PlanError};
+use clsm_model::CallRecord;
+use clsm_planner::{AnyDeal, AsCalled, Caller, Merging, PlanError};
 use clsm_words::Kind;
 use std::alloc::Global;
 
@@ -20,7 +20,7 @@ pub(crate) struct Machine {
     world: World,
     callers: Vec<Caller>,
     /// The calls of each seat.
-    deals: Vec<Vec<Deal>>,
+    deals: Vec<Vec<AnyDeal>>,
     merging: Merging,
     /// The merger's last step.
     merged: Option<Kind>,
@@ -36,7 +36,7 @@ struct Begun {
 }
 
 /// The calls of each seat.
-fn deals_of(alloc: Global, script: &Script) -> Result<Vec<Vec<Deal>>, Wrong> {
+fn deals_of(alloc: Global, script: &Script) -> Result<Vec<Vec<AnyDeal>>, Wrong> {
     let mut deals = Vec::new(alloc);
     for player in [FIRST, OTHER] {
         if deals.push(script.deals(alloc, player)?).is_err() {
@@ -47,7 +47,7 @@ fn deals_of(alloc: Global, script: &Script) -> Result<Vec<Vec<Deal>>, Wrong> {
 }
 
 /// The callers that make these calls.
-fn callers_of(alloc: Global, deals: &[Vec<Deal>]) -> Result<Vec<Caller>, Wrong> {
+fn callers_of(alloc: Global, deals: &[Vec<AnyDeal>]) -> Result<Vec<Caller>, Wrong> {
     let mut callers = Vec::new(alloc);
     for calls in deals {
         if callers.push(Caller::new(alloc, calls.as_slice())).is_err() {

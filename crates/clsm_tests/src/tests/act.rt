@@ -15,6 +15,10 @@ pub(super) enum Act {
     Batch(&'static [Write]),
     /// The same, by a call that tries the lock once.
     TryBatch(&'static [Write]),
+    /// The writes of a batch, if these conditions hold.
+    BatchIf(&'static [Demand], &'static [Write]),
+    /// The same, by a call that tries the lock once.
+    TryBatchIf(&'static [Demand], &'static [Write]),
     /// A batch of this word at the key and at the next one.
     BatchTwo(u64, u64),
     /// Puts each number from the second on and below the third, at so many keys in turn.
@@ -23,6 +27,10 @@ pub(super) enum Act {
     Change(u64),
     Get(u64),
     GetAt(u64),
+    /// So many keys from this one on, at one time.
+    GetMany(u64, usize),
+    /// The same under the open snapshot.
+    GetManyAt(u64, usize),
     /// All keys from this one on.
     Scan(u64),
     /// So many keys from this one on.
@@ -69,6 +77,17 @@ pub(super) enum Write {
     Keep(u64),
 }
 
+/// A condition of a batch.
+#[derive(Clone, Copy)]
+pub(super) enum Demand {
+    /// The key has a value of this one word.
+    Word(u64, u64),
+    /// The key has no value.
+    Nothing(u64),
+    /// From the first key to the second so many have a value.
+    Keys(u64, u64, u64),
+}
+
 /// A turn at a gate.
 #[derive(Clone, Copy)]
 pub(super) enum Turn {
@@ -93,9 +112,11 @@ pub(super) enum Answer {
     Full(Time),
     Refused(TryPutError),
     Unbatched(BatchError),
+    /// The condition at this place of a batch does not hold.
+    Unmet(usize, Time),
     Got(Time, u64),
     None(Time),
-    /// So many rows of a scan.
+    /// So many rows of a scan, or so many keys of several that have a value.
     Rows(Time, usize),
     /// So many rows of a page, and the key of the next one.
     Page(Time, usize, Option<u64>),

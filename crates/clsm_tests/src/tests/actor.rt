@@ -96,7 +96,7 @@ fn answer_of(answer: &Called) -> Answer {
     }
 }
 
-fn one_word(rt: &impl Abort, word: u64) -> Value {
+pub(super) fn one_word(rt: &impl Abort, word: u64) -> Value {
     Value::new(&[word]).expect(rt, "one word")
 }
 
@@ -115,7 +115,7 @@ fn member_of(rt: &impl Abort, write: &Write) -> (u64, Change) {
 }
 
 /// The members of a batch that the writes are.
-fn members_of(rt: &impl Abort, alloc: Global, writes: &[Write]) -> Members {
+pub(super) fn members_of(rt: &impl Abort, alloc: Global, writes: &[Write]) -> Members {
     let mut members = Vec::with_capacity(alloc, writes.len()).expect(rt, "memory");
     for write in writes {
         members.push(member_of(rt, write)).expect(rt, "memory");
@@ -129,7 +129,7 @@ fn batch_of(rt: &impl Abort, alloc: Global, writes: &[Write]) -> Call {
     Call::Batch { members }
 }
 
-/// The call that the act is. A change is none of these.
+/// The call that the act is. A change is none of these, nor is a read of many keys.
 fn call_of(rt: &impl Abort, alloc: Global, act: &Act) -> Call {
     let hi = u64::MAX;
     match *act {
@@ -169,6 +169,12 @@ fn call_of(rt: &impl Abort, alloc: Global, act: &Act) -> Call {
 }
 
 impl<'a> Actor<'a> {
+    /// Keeps the record of a call.
+    pub(super) fn keep(&mut self, rt: &impl Abort, time: Time, deed: Deed) {
+        let record = self.caller.record_of(time, deed);
+        self.records.push(record).expect(rt, "memory");
+    }
+
     /// A change of the key's value, whose record is kept.
     fn change<R: Abort + Wait>(&mut self, rt: &R, key: Key) -> Answer {
         let Rmw { time, old, change } = match self.caller.rmw(rt, key, &|old| next(old)) {
@@ -202,6 +208,12 @@ impl<'a> Actor<'a> {
     fn call<R: Abort + Wait>(&mut self, rt: &R, alloc: Global, act: &Act) -> Answer {
         if let Act::Change(key) = act {
             return self.change(rt, *key);
+        }
+        if let Act::GetMany(from, keys) = act {
+            return self.get_many(rt, *from, *keys);
+        }
+        if let Act::GetManyAt(from, keys) = act {
+            return self.get_many_at(rt, *from, *keys);
         }
         let call = call_of(rt, alloc, act);
         let called = self.caller.play(rt, alloc, &call);
@@ -420,6 +432,8 @@ impl<'a> Actor<'a> {
                     self.command(rt, act)
                 }
                 Act::TryBatch(writes) => self.try_batch(rt, alloc, writes),
+                Act::BatchIf(demands, writes) => self.batch_if(rt, alloc, demands, writes),
+                Act::TryBatchIf(demands, writes) => self.try_batch_if(rt, alloc, demands, writes),
                 Act::Room => Answer::Count(self.caller.room()),
                 Act::Count(lo) => self.count(rt, alloc, *lo),
                 Act::Visit(lo) => self.visit(rt, alloc, *lo),

@@ -49,8 +49,10 @@ pub(super) fn draw(load: &Load, word: u64, own: u64, reads_snapshot: bool) -> Ac
         6..=9 => Act::Put(key, value),
         10 => Act::Remove(key),
         11 | 12 if matches!(load.mix, Mix::Changing) => Act::Change(key),
+        13 if reads_snapshot && value % 2 == 0 => Act::GetManyAt(key, 4),
         13 if reads_snapshot => Act::GetAt(key),
         14 => Act::BatchTwo(key, value),
+        15 => Act::GetMany(key, 4),
         _ => Act::Get(key),
     }
 }

@@ -5,7 +5,9 @@ ghost use Rattle.clsm_store_calls.specs.Seats.{AreNew, HasSizes, IsNewMerger};
 
 use clsm_model::{CallRecord, Config, Deed, Key, Memory, OpenError, Value};
 use clsm_store::{Free, Merger, NotFrozen, Opened, Seat, Store, open};
-use clsm_store_audit::{Write, joined_are_records, race_agrees, settle_audited};
+use clsm_store_audit::{
+    Crossing, Write, joined_are_records, race_agrees, settle_audited, skew_is_refused,
+};
 use std::alloc::Global;
 use std::process::Abort;
 use std::sync::Wait;
@@ -125,4 +127,19 @@ fn a_race_answers_as_the_history(rt: HostRuntime) {
         raced = race_agrees(&rt, rt.alloc(), &write);
     }
     assert_eq!(rt; raced, Some(()));
+}
+
+/// Each of the two reads both keys and writes one. Which of them is refused, if one is, depends on
+/// the threads.
+#[test]
+fn two_transactions_cross(rt: HostRuntime) {
+    let value = Value::new(&[1, 2]).expect(&rt, "two words");
+    let one = Write { key: 7, value };
+    let other = Write { key: 8, value };
+    let crossing = Crossing { one, other };
+    let mut came = skew_is_refused(&rt, rt.alloc(), &crossing);
+    if came.is_none() {
+        came = skew_is_refused(&rt, rt.alloc(), &crossing);
+    }
+    assert!(rt; came.is_some());
 }

@@ -3,7 +3,7 @@ use super::act::{Act, Answer, LET_GO, Step, Turn, WAIT};
 use super::case::{Case, FOUR_CELLS, NONE, PLAIN, Phase, alone, check};
 use super::drawn::Mix;
 use super::gate::{ALL, ALL_STEPS, AT_DECIDE, Hold, NOBODY, NOWHERE, OPEN};
-use super::{batches, held, hot};
+use super::{batches, conditions, held, hot, many};
 use clsm_law::Word;
 use clsm_store::Config;
 use clsm_words::Kind;
@@ -337,8 +337,10 @@ fn cases_are_answered(rt: HostRuntime) -> Result<(), Fail> {
     for cases in [
         ALONE,
         batches::CASES,
+        conditions::CASES,
         held::CASES,
         hot::CASES,
+        many::CASES,
         LOOKS,
         THREADS,
         ORDERED,

@@ -1,6 +1,6 @@
 //! What explorations of small schedules find, where the calls take their steps in wrong orders.
 use clsm_explore::{
-    Deal, ExploreError, MergeStage, Place, Planner, Stage, Task, Untold, explore_with,
+    AnyDeal, Deal, ExploreError, MergeStage, Place, Planner, Stage, Task, Untold, explore_with,
 };
 use clsm_law::Layout;
 use clsm_model::{Config, Value};
@@ -70,6 +70,8 @@ type Order = (Wrong, Deal, Deal, Deal, usize);
 /// limit.
 fn check_order(rt: &impl Abort, alloc: Global, layout: &Layout, order: Order) -> Result<(), Fail> {
     let (wrong, first, then, second, limit) = order;
+    let (first, then) = (AnyDeal::Plain(first), AnyDeal::Plain(then));
+    let second = AnyDeal::Plain(second);
     let deals = vec![in alloc; vec![in alloc; first, then]?, vec![in alloc; second]?]?;
     assert!(rt; deals.len() as u64 <= layout.seats, "a seat for each list");
     let task = Task {

@@ -3,7 +3,7 @@
 use super::device::Screen;
 use clsm_audit::{AuditError, FaultKind, audit};
 use clsm_model::{CallRecord, Change, Config, Deal, Deed, Value};
-use clsm_workload::{AskedRun, Load, Ran, Shows, Workload, run_on};
+use clsm_workload::{AskedRun, Load, Ran, Shows, Turn, Workload, run_on};
 use std::alloc::Global;
 use std::process::Abort;
 use std::rt::Clock;
@@ -13,6 +13,7 @@ use std::thread::Threads;
 
 mod overlap;
 mod settling;
+mod several;
 
 const TWO_SEATS: Config = Config {
     cells: 1_024,
@@ -40,6 +41,8 @@ const LOAD: Load = Load {
     keys: 64,
     seed: 7,
     batch: false,
+    many: false,
+    swap: false,
 };
 
 /// A workload beside one that was drawn by hand, with the reference generator of PCG.
@@ -68,15 +71,24 @@ fn the_calls_are_those_drawn_by_hand(rt: HostRuntime) -> Result<(), Fail> {
         Deal::Close,
         Deal::Add { key: 42, by: 1 },
     ];
-    let mut workload = Workload::new(14_301, 1, 64, false);
+    let load = Load {
+        ops: 1_000,
+        keys: 64,
+        seed: 14_301,
+        batch: false,
+        many: false,
+        swap: false,
+    };
+    let mut workload = Workload::new(&load, 1);
     let mut has_snapshot = false;
     for call in calls {
-        assert_eq!(rt; workload.next(has_snapshot), call);
-        match call {
+        let had_snapshot = has_snapshot;
+        match &call {
             Deal::Snap => has_snapshot = true,
             Deal::Close => has_snapshot = false,
             _ => (),
         }
+        assert_eq!(rt; workload.next(had_snapshot), Turn::Call(call));
     }
     Ok(())
 }
@@ -86,9 +98,38 @@ fn the_calls_are_those_drawn_by_hand(rt: HostRuntime) -> Result<(), Fail> {
 fn the_batches_are_those_drawn_by_hand(rt: HostRuntime) {
     let first = Value::new(&[1_038_557_569, 1_038_557_570]).expect(&rt, "two words");
     let second = Value::new(&[1_588_407_264]).expect(&rt, "a word");
-    let mut workload = Workload::new(254_571, 1, 64, true);
+    let load = Load {
+        ops: 1_000,
+        keys: 64,
+        seed: 254_571,
+        batch: true,
+        many: false,
+        swap: false,
+    };
+    let mut workload = Workload::new(&load, 1);
     for (key, next, value) in [(63, 0, first), (19, 20, second)] {
         let members = [(key, Change::Set(value)), (next, Change::Set(value))];
-        assert_eq!(rt; workload.next(false), Deal::Batch { members });
+        assert_eq!(rt; workload.next(false), Turn::Call(Deal::Batch { members }));
     }
+}
+
+/// A read of several keys and an exchange, drawn by hand in the same way. The keys behind the last
+/// are the first.
+#[test]
+fn the_turns_of_several_keys_are_those_drawn_by_hand(rt: HostRuntime) {
+    let load = Load {
+        ops: 1_000,
+        keys: 64,
+        seed: 181,
+        batch: false,
+        many: true,
+        swap: true,
+    };
+    let mut workload = Workload::new(&load, 1);
+    let many = Turn::Many {
+        keys: [62, 63, 0, 1],
+    };
+    assert_eq!(rt; workload.next(false), many);
+    let swap = Turn::Swap { one: 17, other: 49 };
+    assert_eq!(rt; workload.next(false), swap);
 }

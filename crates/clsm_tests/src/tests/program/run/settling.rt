@@ -37,7 +37,8 @@ fn settle<R: Abort + Threads + Sync + Clock + Wait>(
     (records.len(), audit(alloc, config, &records))
 }
 
-/// A million calls, batches among them, except those that find no room before the next merge.
+/// A million calls, batches and calls of several keys among them, except those that find no room
+/// before the next merge. A call of several keys makes up to five records.
 #[test]
 fn settled_seats_are_audited(rt: HostRuntime) -> Result<(), Fail> {
     let alloc = rt.alloc();
@@ -48,9 +49,11 @@ fn settled_seats_are_audited(rt: HostRuntime) -> Result<(), Fail> {
         keys: 64,
         seed: 7,
         batch: true,
+        many: true,
+        swap: true,
     };
     let (calls, verdict) = settle(&rt, alloc, &config, opened, &load);
-    assert!(rt; calls <= 1_000_000);
+    assert!(rt; calls <= 2_000_000);
     assert_eq!(rt; verdict, Ok(()));
     Ok(())
 }

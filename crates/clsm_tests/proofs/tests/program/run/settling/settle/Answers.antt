@@ -2,17 +2,12 @@ use Rattle.std.proofs.Common.{rules, ◌≡◌, ◌<◌, slice_index_or, arith}
 use Rattle.std.proofs.lemmas.List.{get_or_default}
 use Rattle.clsm_workload.specs.Calls.{AreWorked}
 use Rattle.clsm_workload.proofs.Brought.{seats_of}
-use Rattle.clsm_workload.proofs.Seated.{all_seated, are_seats, told}
+use Rattle.clsm_workload.proofs.Seated.{all_seated, are_seats}
 use Rattle.clsm_tests.proofs.tests.program.run.settling.settle.Goals as goal
 
 pub work_merging-worked-requires-clause-seats : goal.work_merging-worked-requires-clause-seats
 work_merging-worked-requires-clause-seats g c κs within =
     all_seated c.args.opened.store c.args.config.now.seats c.args.opened.seats.items c.requires.seats
-
-pub gather-requires : goal.gather-requires
-gather-requires g c =
-    let done : AreWorked c.args.load.now c.args.opened.seats.items c.expect.result.items = search rules in
-    told c.args.opened.store c.args.config.now.seats c.args.opened.seats.items c.requires.seats c.args.load.now c.expect.result.items done
 
 pub settle-requires : goal.settle-requires
 settle-requires g c =
