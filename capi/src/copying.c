@@ -30,6 +30,15 @@ static int write_part(clsm_caller *caller, const struct part *part) {
 
 /* ---- Removing */
 
+/* Room for the batches of the caller's store, before this key: OK, MEMORY, or what refuses a call. */
+static int open_part_of(clsm_caller *caller, uint64_t first, struct part **part) {
+    struct clsm_seat *seat = (struct clsm_seat *)caller;
+    const int refused = clsm_begin(seat, CLSM_AS_CALLER);
+    if (refused) return refused;
+    *part = open_part(seat->store, first);
+    return clsm_end(seat, *part ? CLSM_OK : CLSM_MEMORY);
+}
+
 static int remove_parts(clsm_caller *caller, uint64_t last, struct part *part, uint64_t *removed) {
     int code = CLSM_OK;
     while (part->end.more && code == CLSM_OK) {
@@ -45,10 +54,10 @@ static int remove_parts(clsm_caller *caller, uint64_t last, struct part *part, u
 int clsm_remove_range(clsm_caller *caller, uint64_t first, uint64_t last,
                       uint64_t *removed_or_null) {
     uint64_t none, *removed = removed_or_null ? removed_or_null : &none;
+    struct part *part = NULL;
     *removed = 0;
-    if (!caller) return CLSM_BAD_POINTER;
-    struct part *part = open_part(caller->seat.store, first);
-    const int code = part ? remove_parts(caller, last, part, removed) : CLSM_MEMORY;
+    int code = open_part_of(caller, first, &part);
+    if (code == CLSM_OK) code = remove_parts(caller, last, part, removed);
     free(part);
     return code;
 }
