@@ -302,14 +302,18 @@ int clsm_put_if_absent(clsm_caller *caller, uint64_t key, const clsm_value *valu
 
 /* ---- Reads */
 
-/* Gets again until the time is in order. Apart, so that a get that need not has no more to keep. */
-static int get_again(struct clsm_seat *seat, const clsm_core_key *ask, clsm_core_got *answer) {
+/* Gets again until the time is in order. Never inlined: so a get that need not has less to keep. */
+CLSM_APART static int get_again(struct clsm_seat *seat, uint64_t key, clsm_value *value) {
     struct clsm_patience patience = CLSM_PATIENCE;
-    for (;;) {
+    const clsm_core_key ask = {key};
+    clsm_core_got answer;
+    int code;
+    do {
         clsm_be_patient(&patience);
-        int code = (int)clsm_core_get(&seat->core, ask, answer);
-        if (clsm_is_in_order(seat, answer->time)) return code;
-    }
+        code = (int)clsm_core_get(&seat->core, &ask, &answer);
+    } while (!clsm_is_in_order(seat, answer.time));
+    clsm_hand_on(&answer.value, value);
+    return code;
 }
 
 int clsm_get(clsm_caller *caller, uint64_t key, clsm_value *value) {
@@ -319,7 +323,7 @@ int clsm_get(clsm_caller *caller, uint64_t key, clsm_value *value) {
     int code = clsm_begin(seat, CLSM_AS_CALLER);
     if (code) return code;
     code = (int)clsm_core_get(&seat->core, &ask, &answer);
-    if (!clsm_is_in_order(seat, answer.time)) code = get_again(seat, &ask, &answer);
+    if (!clsm_is_in_order(seat, answer.time)) return clsm_end(seat, get_again(seat, key, value));
     clsm_hand_on(&answer.value, value);
     return clsm_end(seat, code);
 }

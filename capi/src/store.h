@@ -370,6 +370,13 @@ int clsm_read_page(struct clsm_seat *seat, struct clsm_span span, clsm_row *rows
 int clsm_read_keys(struct clsm_seat *seat, const uint64_t *keys, size_t count, clsm_value *values,
                    clsm_core_time *answer);
 
+/* What is rare, kept out of what is not. */
+#if defined __GNUC__
+#define CLSM_APART __attribute__((noinline, cold))
+#else
+#define CLSM_APART
+#endif
+
 /* ---- Calls on a handle */
 
 static inline enum clsm_use clsm_use_of(struct clsm_seat *seat) {
