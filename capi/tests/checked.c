@@ -82,6 +82,8 @@ int main(void) {
     ANSWERS(CLSM_CLOSED, clsm_snapshot_first(snapshot, 0, 1, &row));
     ANSWERS(CLSM_CLOSED, clsm_snapshot_page_down(snapshot, 1, 0, &row, 1, NULL));
     clsm_snapshot_close(snapshot);
+    OK(clsm_clear(caller, NULL));
+    ANSWERS(CLSM_NOT_FOUND, clsm_get(caller, 1, NULL));
     clsm_caller_close(caller);
     ANSWERS(CLSM_CLOSED, clsm_get(caller, 1, NULL));
     ANSWERS(CLSM_CLOSED, clsm_put(caller, 1, &WORD, 1));
