@@ -113,14 +113,14 @@ static void fall_meanwhile(void) {
 
 /* An epoch of which all is drawn that is not for batches, behind a merge that is not done yet. */
 static void keep_room(size_t count) {
-    enum { EPOCH = 64, OPEN_WRITES = EPOCH - EPOCH / 32 };
+    enum { EPOCH = 64, HALF = EPOCH / 2, OPEN_WRITES = EPOCH - EPOCH / 32 };
     clsm_store *store = opened(EPOCH, 0);
     clsm_caller *caller = caller_of(store);
     const unsigned made = mock_core_count(MOCK_FREEZE);
     mock_core_refuse(MOCK_SWEEP, CLSM_PINNED, UINT_MAX);
     OK(clsm_put(caller, 9, &WORD, 1));
     OK(write_if(caller, &HAS, count));
-    for (int i = 2; i < EPOCH / 2 + 1; i++) OK(clsm_put(caller, 1, &WORD, 1));
+    for (size_t drawn = 1 + count; drawn < HALF; drawn++) OK(clsm_put(caller, 1, &WORD, 1));
     mock_core_await(MOCK_FREEZE, made + 1);
     while (clsm_sweep(store) != CLSM_PINNED) continue;
     for (int i = 0; i < OPEN_WRITES; i++) OK(clsm_try_put(caller, 1, &WORD, 1));
