@@ -137,6 +137,13 @@ class Plain(unittest.TestCase):
             self.assertEqual(list(reversed(snapshot.items())), [(2, 70), (1, 30)])
             self.assertEqual(list(snapshot.scan(reverse=True)), [(2, 70), (1, 30)])
 
+    def test_calculating(self) -> None:
+        """Who knows that all values are ints need not look at each."""
+        store: Store[int, Any] = self.store
+        store[7] = 1
+        store[7] += store[7] + 1
+        self.assertEqual(sum(store.get_many([7])), 3)
+
     def test_what_is_refused(self) -> None:
         store = self.store
         with self.assertRaises(TypeError):
