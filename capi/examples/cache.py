@@ -5,7 +5,7 @@ was at one moment, however often it is read.
 """
 
 import threading
-from typing import Tuple
+from typing import Any, Tuple
 
 import cupolanettle
 
@@ -23,7 +23,7 @@ def path_of(number: int) -> Tuple[int, int]:
     return steps, highest
 
 
-def cached(store: cupolanettle.Store, number: int) -> cupolanettle.Value:
+def cached(store: cupolanettle.Store[int, Any], number: int) -> Any:
     """The path of a number: from the cache, or computed and kept, unless another thread was first."""
     path = store.get(number)
     if path is None:
@@ -31,12 +31,12 @@ def cached(store: cupolanettle.Store, number: int) -> cupolanettle.Value:
     return path
 
 
-def fill(store: cupolanettle.Store) -> None:
+def fill(store: cupolanettle.Store[int, Any]) -> None:
     for number in range(1, NUMBERS + 1):
         cached(store, number)
 
 
-def look(store: cupolanettle.Store) -> None:
+def look(store: cupolanettle.Store[int, Any]) -> None:
     """Reads a snapshot row by row. It has as many rows as it says, and each of them is right."""
     with store.snapshot() as snapshot:
         rows = list(snapshot.scan())

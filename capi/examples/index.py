@@ -43,7 +43,7 @@ def raise_price(rows: Any, number: int, by: int) -> None:
 
 
 def query(
-    store: cupolanettle.Store, start: int, stop: int, falls: bool
+    store: cupolanettle.Store[int, Any], start: int, stop: int, falls: bool
 ) -> List[Tuple[int, Any]]:
     """The first places of the index between the two, by rising or falling price, with goods."""
     with store.snapshot() as now:
@@ -51,7 +51,7 @@ def query(
         return list(zip(places, now.get_many([place & NUMBER for place in places])))
 
 
-def print_pages(store: cupolanettle.Store, low: int, high: int, falls: bool) -> None:
+def print_pages(store: cupolanettle.Store[int, Any], low: int, high: int, falls: bool) -> None:
     """Prints the goods with prices from low on and below high, each page behind the last place."""
     start, stop = place_of(low, 0), place_of(high, 0)
     while True:
@@ -65,7 +65,7 @@ def print_pages(store: cupolanettle.Store, low: int, high: int, falls: bool) -> 
             start = page[-1][0] + 1
 
 
-def fill(store: cupolanettle.Store) -> None:
+def fill(store: cupolanettle.Store[int, Any]) -> None:
     for number in range(GOODS):
         good = 10 + number * 37 % 90, text.key_of(f"good {number}")
         with store.batch() as batch:
@@ -73,14 +73,14 @@ def fill(store: cupolanettle.Store) -> None:
             batch[place_of(good[0], number)] = 0
 
 
-def work(store: cupolanettle.Store, own: int) -> None:
+def work(store: cupolanettle.Store[int, Any], own: int) -> None:
     """Raises prices, of which others raise some at the same time."""
     for turn in range(ROUNDS):
         number, by = (31 * own + 17 * turn) % 40, (own + turn) % 7
         store.transact(lambda rows: raise_price(rows, number, by))
 
 
-def look(store: cupolanettle.Store) -> str:
+def look(store: cupolanettle.Store[int, Any]) -> str:
     with store.snapshot() as now:
         goods = dict(now.scan(0, INDEX))
         entries = [place for place, _ in now.scan(INDEX)]

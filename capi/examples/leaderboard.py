@@ -8,7 +8,7 @@ each player, at a key that is the smaller the greater the score is: the ranking.
 
 import itertools
 import threading
-from typing import List, Tuple
+from typing import Any, List, Tuple
 
 import cupolanettle
 
@@ -25,7 +25,7 @@ def place_of(score: int, player: int) -> int:
     return RANKING | (MOST - score) << 32 | player
 
 
-def win(store: cupolanettle.Store, player: int, points: int) -> None:
+def win(store: cupolanettle.Store[int, Any], player: int, points: int) -> None:
     """Adds to a score, and moves the player up in the ranking by a batch.
 
     No read finds the player twice there, or not at all.
@@ -37,14 +37,14 @@ def win(store: cupolanettle.Store, player: int, points: int) -> None:
     store.add(ALL, points)
 
 
-def play(store: cupolanettle.Store, own: int) -> None:
+def play(store: cupolanettle.Store[int, Any], own: int) -> None:
     """A thread has every fourth player. In a round a player wins its number of points, plus one."""
     for _ in range(ROUNDS):
         for player in range(own, PLAYERS, THREADS):
             win(store, player, player + 1)
 
 
-def best(store: cupolanettle.Store, count: int) -> List[Tuple[int, cupolanettle.Value]]:
+def best(store: cupolanettle.Store[int, Any], count: int) -> List[Tuple[int, cupolanettle.Value]]:
     """The first players of the ranking at one moment, and their scores."""
     rows = itertools.islice(store.scan(RANKING), count)
     return [(place & 0xFFFFFFFF, score) for place, score in rows]

@@ -47,7 +47,7 @@ def make_next(t: Any) -> bool:
     return True
 
 
-def work(store: cupolanettle.Store) -> None:
+def work(store: cupolanettle.Store[int, Any]) -> None:
     while store.transact(make_next, MOST_TRIES):
         pass
 

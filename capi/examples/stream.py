@@ -34,7 +34,7 @@ class Dies(Exception):
     """A worker dies."""
 
 
-def produce(store: cupolanettle.Store, log: int) -> None:
+def produce(store: cupolanettle.Store[int, Any], log: int) -> None:
     """Writes a log. Its times rise, but some events are late, and a few too late."""
     for place in range(EVENTS):
         late = 300 if place % 50 == 49 else 20 * (place % 3)
@@ -46,7 +46,7 @@ def first_open(latest: int) -> int:
     return max(0, latest - SLACK) // WIDTH
 
 
-def count(store: cupolanettle.Store, rows: Any, log: int) -> None:
+def count(store: cupolanettle.Store[int, Any], rows: Any, log: int) -> None:
     """Counts the next events of a log, in a transaction. It reads them outside of that: a log's
     rows never change, so it comes to no conflict with the thread that writes them."""
     place, latest, late = rows.get(PROGRESS | log, (0, 0, 0))
@@ -62,19 +62,19 @@ def count(store: cupolanettle.Store, rows: Any, log: int) -> None:
     rows[PROGRESS | log] = place, latest, late
 
 
-def progress(store: cupolanettle.Store) -> List[Any]:
+def progress(store: cupolanettle.Store[int, Any]) -> List[Any]:
     rows = store.get_many([PROGRESS | log for log in range(LOGS)])
     return [(0, 0, 0) if row is None else row for row in rows]
 
 
-def expire(store: cupolanettle.Store) -> None:
+def expire(store: cupolanettle.Store[int, Any]) -> None:
     """Removes the windows that are closed for all logs. No worker counts there any more: it would
     have read an older progress, and come to a conflict."""
     closed = min(first_open(latest) for _, latest, _ in progress(store))
     store.remove_range(WINDOWS, WINDOWS | closed << 16)
 
 
-def work(store: cupolanettle.Store, own: int) -> None:
+def work(store: cupolanettle.Store[int, Any], own: int) -> None:
     """Counts events of one log after another, and dies in the middle of a transaction."""
     for turn in range(own, 3 * own + 8):
         store.transact(lambda rows: count(store, rows, turn % LOGS))

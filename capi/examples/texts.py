@@ -122,12 +122,12 @@ def add(texts: Texts, number: int) -> None:
     texts.set(b"texts", b"%d" % (int(texts.get(b"texts") or 0) + 1))
 
 
-def fill(store: cupolanettle.Store, own: int) -> None:
+def fill(store: cupolanettle.Store[int, Any], own: int) -> None:
     for number in NUMBERS[own::THREADS]:
         store.transact(lambda rows: add(Texts(rows), number))
 
 
-def look(store: cupolanettle.Store) -> str:
+def look(store: cupolanettle.Store[int, Any]) -> str:
     """The count, and how many texts there are: at one moment, so they are the same."""
     with store.snapshot() as rows:
         count, *found = Texts(rows).get_many([b"texts", *map(name_of, NUMBERS)])

@@ -13,7 +13,7 @@ import socket
 import socketserver
 import sys
 import threading
-from typing import Callable, Dict, Iterator, List, Optional, Tuple
+from typing import Any, Callable, Dict, Iterator, List, Optional, Tuple
 
 import cupolanettle
 from texts import Texts
@@ -84,7 +84,7 @@ READS = {b"GET", b"MGET", b"PING"}
 class Client:
     """What a client watches, as it found it, and the commands since its MULTI."""
 
-    def __init__(self, store: cupolanettle.Store) -> None:
+    def __init__(self, store: cupolanettle.Store[int, Any]) -> None:
         self.store = store
         self.forget()
 
@@ -210,7 +210,7 @@ class Server(socketserver.ThreadingTCPServer):
     allow_reuse_address = daemon_threads = True
     request_queue_size = 64
 
-    def __init__(self, port: int, store: cupolanettle.Store) -> None:
+    def __init__(self, port: int, store: cupolanettle.Store[int, Any]) -> None:
         super().__init__(("127.0.0.1", port), Connection)
         self.store = store
 

@@ -8,7 +8,7 @@ numbers are in the order of words. Words are counted by their first eight letter
 
 import sys
 import threading
-from typing import List
+from typing import Any, List
 
 import cupolanettle
 
@@ -24,7 +24,7 @@ def word_of(key: int) -> str:
     return key.to_bytes(8, "big").rstrip(b"\0").decode(errors="replace")
 
 
-def count_words(store: cupolanettle.Store, words: List[str]) -> None:
+def count_words(store: cupolanettle.Store[int, Any], words: List[str]) -> None:
     """Counts these words. No addition of another thread is lost."""
     for word in words:
         store.add(key_of(word))

@@ -185,7 +185,7 @@ class Writing(unittest.TestCase):
 
 
 class BesideReaders(unittest.TestCase):
-    def check(self, store: Store) -> None:
+    def check(self, store: Store[int, Value]) -> None:
         is_over: List[bool] = []
 
         def write(own: int) -> None:

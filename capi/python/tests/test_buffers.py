@@ -7,9 +7,9 @@ import os
 import unittest
 from array import array
 from functools import partial
-from typing import Any, List
+from typing import Any, Callable, List
 
-from cupolanettle import Closed, OwnSnapshot, RunFull, Store, signed
+from cupolanettle import Closed, OwnSnapshot, RunFull, Store, Value, signed
 
 from .support import in_child, in_process, in_threads
 
@@ -151,10 +151,10 @@ class Putting(Case):
                     written = caught.exception.written
                     self.assertEqual(list(store.scan()), [(key, key) for key in range(written)])
                     self.assertLess(100 - epoch, written)
-                    with self.assertRaises(OwnSnapshot) as caught, store.snapshot():
+                    with self.assertRaises(OwnSnapshot) as refused, store.snapshot():
                         while True:
                             store.put_many(words(1, 2), words(3, 4))
-                    self.assertLessEqual(caught.exception.written, 2)
+                    self.assertLessEqual(refused.exception.written, 2)
 
     def test_closed(self) -> None:
         keys, values = words(*range(MANY)), words(*range(MANY))
@@ -175,7 +175,8 @@ class Putting(Case):
         keys = words(*range(MANY))
 
         def is_closed() -> bool:
-            for call in self.store.get_into, self.store.put_many:
+            calls: List[Callable[[Any, Any], object]] = [self.store.get_into, self.store.put_many]
+            for call in calls:
                 for part in keys, words(1):
                     try:
                         call(part, part)
@@ -191,11 +192,11 @@ class Threads(unittest.TestCase):
     def test_batches_are_seen_whole(self) -> None:
         keys = words(*range(MANY))
 
-        def write(store: Store, seed: int) -> None:
+        def write(store: Store[int, Value], seed: int) -> None:
             for number in range(40):
                 store.put_many(keys, words(*[100 * number + seed] * MANY))
 
-        def read(store: Store) -> None:
+        def read(store: Store[int, Value]) -> None:
             values = words(*[0] * MANY)
             for _ in range(40):
                 store.get_into(keys, values)

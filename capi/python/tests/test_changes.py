@@ -118,7 +118,7 @@ class Missing(unittest.TestCase):
             self.assertEqual(store.pop(7, default), 70)
 
 
-class Interrupted(Store):
+class Interrupted(Store[int, Value]):
     """A store that lets another thread do a job behind a look at a key."""
 
     job: Optional[Callable[[], object]] = None
@@ -248,7 +248,7 @@ class Threads(unittest.TestCase):
         self.store = Store(keys=1_000, epoch=64)
         self.addCleanup(self.store.close)
 
-    def check_sums(self, store: Store, add: Callable[[int], Any]) -> None:
+    def check_sums(self, store: Store[int, Value], add: Callable[[int], Any]) -> None:
         """Each sum is answered to one thread, and each thread's sums rise."""
         sums: List[List[Any]] = [[] for _ in THREADS]
 

@@ -11,12 +11,12 @@ import weakref
 from functools import partial
 from typing import Any, Callable, List
 
-from cupolanettle import Closed, NoSeat, Snapshot, Store
+from cupolanettle import Closed, NoSeat, Snapshot, Store, Value
 
 from .support import SNAPSHOTS, await_mergers, in_child, in_process, in_threads
 
 
-def calls_of(store: Store) -> List[Callable[[], object]]:
+def calls_of(store: Store[int, Value]) -> List[Callable[[], object]]:
     """A call of each kind."""
     return [
         lambda: store[7],
@@ -45,7 +45,7 @@ def calls_of(store: Store) -> List[Callable[[], object]]:
     ]
 
 
-def calls_of_snapshot(snapshot: Snapshot) -> List[Callable[[], object]]:
+def calls_of_snapshot(snapshot: Snapshot[int, Value]) -> List[Callable[[], object]]:
     return [
         lambda: snapshot[7],
         lambda: snapshot.get(7),
@@ -57,7 +57,7 @@ def calls_of_snapshot(snapshot: Snapshot) -> List[Callable[[], object]]:
     ]
 
 
-def filled() -> Store:
+def filled() -> Store[int, Value]:
     store = Store(keys=1_000)
     for key in range(500):
         store[key] = key
@@ -125,7 +125,7 @@ class Closing(unittest.TestCase):
             self.assert_closed(calls_of(store))
 
     def test_it_is_closed_beside_calls(self) -> None:
-        def call(store: Store, began: threading.Event) -> None:
+        def call(store: Store[int, Value], began: threading.Event) -> None:
             key = 0
             try:
                 with self.assertRaises(Closed):
@@ -142,7 +142,7 @@ class Closing(unittest.TestCase):
             finally:
                 began.set()
 
-        def close(store: Store, events: List[threading.Event]) -> None:
+        def close(store: Store[int, Value], events: List[threading.Event]) -> None:
             for event in events:
                 event.wait()
             store.close()
@@ -367,7 +367,7 @@ class Forks(unittest.TestCase):
                 in_threads([lambda: own.add(7), lambda: own.add(7)])
                 return own[7] == 9 and snapshot[7] == 7 and in_child(lambda: grandchild(own))
 
-        def grandchild(parents: Store) -> bool:
+        def grandchild(parents: Store[int, Value]) -> bool:
             self.assertRaises(Closed, parents.get, 7)
             with filled() as own:
                 return own[7] == 7

@@ -159,7 +159,7 @@ class CodedStores(unittest.TestCase):
             self.assertTrue(store.replace(-6, b"six", None))
             self.assertFalse(store.replace(-5, b"six", b"seven"))
             self.assertFalse(store.replace(-6, b"six", b"seven"))
-            self.assertEqual(store.alter(7, lambda old: old[:2] + b"y"), b"xxy")
+            self.assertEqual(store.alter(7, lambda old: (old or b"")[:2] + b"y"), b"xxy")
             self.assertEqual(store.alter(9, lambda old: old), None)
             self.assertEqual(store.add(7, b"z"), b"xxyz")
             self.assertEqual((store.pop(7), store.pop(7, None)), (b"xxyz", None))

@@ -4,10 +4,11 @@ from __future__ import annotations
 
 import threading
 import unittest
+from functools import partial
 from typing import Any, Callable, Dict, List, Optional, Tuple
 
 import cupolanettle
-from cupolanettle import Closed, NoSeat, OwnSnapshot, RunFull, Store, VersionsFull
+from cupolanettle import Closed, NoSeat, OwnSnapshot, RunFull, Store, Value, VersionsFull
 
 from .support import SNAPSHOTS, await_mergers, in_child, in_process, in_threads
 
@@ -30,8 +31,9 @@ with Store(keys=1_000) as store:
 """
 
 
-def filled(rows: int = KEYS, **options: Any) -> Store:
-    store = Store(**{"keys": 1_000, "epoch": 64, **options})
+def filled(rows: int = KEYS, **options: Any) -> Store[int, Value]:
+    chosen: Dict[str, Any] = {"keys": 1_000, "epoch": 64, **options}
+    store: Store[int, Value] = Store(**chosen)
     store.put_many({key: (key, 1) for key in range(rows)})
     return store
 
@@ -90,7 +92,7 @@ class Removals(unittest.TestCase):
         for is_own in False, True:
             with filled(rows, keys=rows, versions=2_000, wait=0) as store:
                 store.sweep()
-                snapshots: List[cupolanettle.Snapshot] = []
+                snapshots: List[cupolanettle.Snapshot[int, cupolanettle.Value]] = []
                 take: Callable[[], object] = lambda: snapshots.append(store.snapshot())
                 take() if is_own else in_threads([take])
                 with self.subTest(is_own=is_own):
@@ -105,7 +107,7 @@ class Removals(unittest.TestCase):
 
     def test_it_waits_for_a_snapshot(self) -> None:
         with filled(500, keys=500, epoch=4, versions=88, wait=None) as store:
-            snapshot: List[cupolanettle.Snapshot] = []
+            snapshot: List[cupolanettle.Snapshot[int, cupolanettle.Value]] = []
             in_threads([lambda: snapshot.append(store.snapshot())])
             removed: List[int] = []
             thread = threading.Thread(target=lambda: removed.append(store.clear()))
@@ -126,7 +128,7 @@ class Removals(unittest.TestCase):
                     self.assertEqual(store.count(first, stop), 0)
                 store[first] = own
 
-            in_threads([lambda own=own: work(own) for own in range(6)])
+            in_threads([partial(work, own) for own in range(6)])
             self.assertEqual(list(store.scan()), [(1_000 * own, own) for own in range(6)])
 
 
@@ -193,7 +195,8 @@ class Copies(unittest.TestCase):
     def test_closed_stores(self) -> None:
         store = filled()
         store.close()
-        for call in store.copy, store.clear, store.remove_range:
+        calls: List[Callable[[], object]] = [store.copy, store.clear, store.remove_range]
+        for call in calls:
             self.assertRaises(Closed, call)
         await_mergers(0)
 

@@ -6,7 +6,7 @@ import sys
 import unittest
 from typing import Any
 
-from cupolanettle import Closed, Store
+from cupolanettle import Closed, Store, Value
 from cupolanettle import _core as core
 
 from .support import IS_BY_CTYPES, in_process
@@ -36,17 +36,18 @@ class Extension(unittest.TestCase):
         self.assertEqual(self.store._get(7, None), 70)
 
     def test_wrong_arguments(self) -> None:
+        called: Any = core
         calls: Any = [
-            lambda: core.Store(),
+            lambda: called.Store(),
             lambda: self.store._get(7),
             lambda: self.store._put(7, 70, 700),
             lambda: self.store._replace(7, 70),
             lambda: self.store._write_rows(b""),
-            lambda: core.Store._get(7, 7, 7),
-            lambda: core.Snapshot(7),
-            lambda: core.Rows(7, 0, 9, 1, 1, False),
-            lambda: core.pack(7),
-            lambda: core.Store(*OPTIONS, wait=0),
+            lambda: called.Store._get(7, 7, 7),
+            lambda: called.Snapshot(7),
+            lambda: called.Rows(7, 0, 9, 1, 1, False),
+            lambda: called.pack(7),
+            lambda: called.Store(*OPTIONS, wait=0),
         ]
         for number, call in enumerate(calls):
             with self.subTest(number=number):
@@ -86,7 +87,7 @@ class Extension(unittest.TestCase):
 
 class Subclasses(unittest.TestCase):
     def test_they_are_stores(self) -> None:
-        class Counter(Store):
+        class Counter(Store[int, Value]):
             def __init__(self, **options: Any) -> None:
                 super().__init__(**options)
                 self.hits = 0

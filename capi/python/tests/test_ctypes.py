@@ -5,7 +5,7 @@ from __future__ import annotations
 import ctypes
 import unittest
 from functools import partial
-from typing import Any, Callable, List
+from typing import Any, Callable, Dict, List
 from unittest import mock
 
 from cupolanettle import Closed, Code, Error, NoSeat, OwnSnapshot, RunFull, Store, VersionsFull
@@ -77,7 +77,7 @@ class AsIfRefused(unittest.TestCase):
         readers: List[Any] = [self.store, self.snapshot]
         names = ["get", "count", "snapshot_get", "snapshot_count"]
         for code in self.codes():
-            answers = dict.fromkeys(names, partial(answer_code, code))
+            answers: Dict[str, Any] = dict.fromkeys(names, partial(answer_code, code))
             with mock.patch.multiple(library, **answers):
                 for reader in readers:
                     self.assert_refused(partial(reader.get, 7), code)

@@ -12,7 +12,17 @@ import unittest
 from functools import partial
 from typing import Any, Callable, Dict, List
 
-from cupolanettle import Closed, Code, Error, NoSeat, OwnSnapshot, RunFull, Store, VersionsFull
+from cupolanettle import (
+    Closed,
+    Code,
+    Error,
+    NoSeat,
+    OwnSnapshot,
+    RunFull,
+    Store,
+    Value,
+    VersionsFull,
+)
 
 from .support import SNAPSHOTS, in_process, in_threads
 
@@ -84,7 +94,7 @@ class Options(unittest.TestCase):
             self.assertEqual(store[7], 70)
 
 
-def changes_of(store: Store, value: int) -> List[Callable[[], object]]:
+def changes_of(store: Store[int, Value], value: int) -> List[Callable[[], object]]:
     """Calls that write, if the key 7 has the value and the key 8 has none."""
     return [
         partial(store.remove, 7),
@@ -98,7 +108,7 @@ def changes_of(store: Store, value: int) -> List[Callable[[], object]]:
 
 
 class Room(unittest.TestCase):
-    def fill(self, store: Store) -> None:
+    def fill(self, store: Store[int, Value]) -> None:
         """Overwrites one key under a snapshot, until the store is full of versions."""
         written = 0
         with store.snapshot() as snapshot:
@@ -120,7 +130,7 @@ class Room(unittest.TestCase):
             store[7] = number
         self.assertEqual(store[7], 99)
 
-    def overwrite(self, store: Store) -> None:
+    def overwrite(self, store: Store[int, Value]) -> None:
         """In a thread that has no snapshot itself."""
         with self.assertRaises(VersionsFull) as caught:
             store[7] = 1
@@ -132,7 +142,7 @@ class Room(unittest.TestCase):
             self.fill(store)
             self.fill_again(store)
 
-    def fill_again(self, store: Store) -> None:
+    def fill_again(self, store: Store[int, Value]) -> None:
         store.remove(7)
         self.fill(store)
 
@@ -171,7 +181,7 @@ class Room(unittest.TestCase):
                 self.assertEqual(store.count(), 0)
                 self.assertGreaterEqual(self.fill_with_keys(store), 8)
 
-    def fill_with_keys(self, store: Store) -> int:
+    def fill_with_keys(self, store: Store[int, Value]) -> int:
         """How many keys it takes."""
         keys = 0
         with self.assertRaises(RunFull) as caught:
@@ -189,7 +199,8 @@ class Seats(unittest.TestCase):
             opened: List[Any] = []
             for number in range(SNAPSHOTS):
                 opened.append(store.scan() if number % 2 else store.snapshot())
-            for call in store.scan, store.snapshot:
+            opens: List[Callable[[], object]] = [store.scan, store.snapshot]
+            for call in opens:
                 with self.assertRaisesRegex(NoSeat, "each snapshot and scan keeps one") as caught:
                     call()
                 self.assertEqual(caught.exception.code, Code.NO_SEAT)

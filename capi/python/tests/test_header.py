@@ -5,7 +5,7 @@ from __future__ import annotations
 import ctypes
 import re
 import unittest
-from typing import Any, Dict, List, Tuple
+from typing import Any, ClassVar, Dict, List, Tuple
 
 import cupolanettle
 from cupolanettle import Code
@@ -132,6 +132,8 @@ def is_kept_by(call: Any) -> bool:
 
 
 class Declarations(unittest.TestCase):
+    header: ClassVar[Header]
+
     @classmethod
     def setUpClass(cls) -> None:
         cls.header = Header(HEADER.read_text(encoding="ascii"))

@@ -16,7 +16,7 @@ from types import CodeType, FrameType
 from typing import Any, Callable, Dict, List, Optional
 from unittest import mock
 
-from cupolanettle import Closed, Store, Transaction
+from cupolanettle import Closed, Store, Transaction, Value
 
 from .support import SNAPSHOTS, SOURCES, await_mergers, in_process, in_threads
 
@@ -74,76 +74,77 @@ def raise_interrupt() -> None:
     raise Interrupt
 
 
-def take_snapshot(store: Store) -> None:
+def take_snapshot(store: Store[int, Value]) -> None:
     with store.snapshot() as snapshot:
         snapshot.get(7)
 
 
-def keep_snapshot(store: Store) -> None:
+def keep_snapshot(store: Store[int, Value]) -> None:
     snapshot = store.snapshot()
     snapshot.close()
 
 
-def scan(store: Store) -> None:
+def scan(store: Store[int, Value]) -> None:
     for _ in store.scan(0, 8):
         pass
 
 
-def leave_scan(store: Store) -> None:
+def leave_scan(store: Store[int, Value]) -> None:
     next(store.scan())
 
 
-def scan_snapshot(store: Store) -> None:
+def scan_snapshot(store: Store[int, Value]) -> None:
     next(store.snapshot().scan())
 
 
-def put(store: Store) -> None:
+def put(store: Store[int, Value]) -> None:
     store[5] = 5
 
 
-def put_often(store: Store) -> None:
+def put_often(store: Store[int, Value]) -> None:
     for number in range(5):
         store[5] = number
 
 
-def add(store: Store) -> None:
+def add(store: Store[int, Value]) -> None:
     store.add(6)
 
 
-def count(store: Store) -> None:
+def count(store: Store[int, Value]) -> None:
     store.count()
 
 
-def change(store: Store) -> None:
+def change(store: Store[int, Value]) -> None:
     store.alter(4, lambda old: 4)
 
 
-def walk(store: Store) -> None:
+def walk(store: Store[int, Value]) -> None:
     for _ in store.walk(7, 8):
         pass
 
 
-def write_batch(store: Store) -> None:
+def write_batch(store: Store[int, Value]) -> None:
     with store.batch() as batch:
         batch[8] = 8
 
 
-def write_if(store: Store) -> None:
+def write_if(store: Store[int, Value]) -> None:
     store.batch_if({7: 70}, {4: 4}, {(5, 6): 0})
     store.get_many([4, 7, 7])
 
 
-def transact(store: Store) -> None:
+def transact(store: Store[int, Value]) -> None:
     with store.transaction() as t:
-        t[4] = t.get(7), len(list(t.scan(0, 8)))
+        read: Any = t.get(7)
+        t[4] = read, len(list(t.scan(0, 8)))
         t.remove(8)
 
 
-def run_transaction(store: Store) -> None:
+def run_transaction(store: Store[int, Value]) -> None:
     store.transact(lambda t: t.get_many([4, 7]))
 
 
-def conflict(store: Store) -> None:
+def conflict(store: Store[int, Value]) -> None:
     """The second run of a transaction, behind a conflict."""
 
     def run(t: Transaction) -> None:
@@ -155,16 +156,16 @@ def conflict(store: Store) -> None:
     store.transact(run)
 
 
-def remove_range(store: Store) -> None:
+def remove_range(store: Store[int, Value]) -> None:
     store.remove_range(4, 7)
 
 
-def copy(store: Store) -> None:
+def copy(store: Store[int, Value]) -> None:
     with store.copy() as copied:
         copied.get(7)
 
 
-CALLS: List[Callable[[Store], None]] = [take_snapshot, keep_snapshot, scan, leave_scan]
+CALLS: List[Callable[[Store[int, Value]], None]] = [take_snapshot, keep_snapshot, scan, leave_scan]
 CALLS += [scan_snapshot, put, put_often, add, count, change, walk, write_batch]
 CALLS += [write_if, transact, run_transaction, conflict, remove_range, copy]
 
@@ -182,7 +183,7 @@ class AtEachStep(unittest.TestCase):
         warnings.simplefilter("ignore", ResourceWarning)
         self.addCleanup(lambda: self.assertGreater(self.steps, 5))
 
-    def small_store(self) -> Store:
+    def small_store(self) -> Store[int, Value]:
         store = Store(keys=100, epoch=4, merge_in_calls=True)
         store[7] = 70
         return store
@@ -239,7 +240,7 @@ class Interrupts(AtEachStep):
 
     def test_a_store_is_closed(self) -> None:
         await_mergers(0)
-        stores: List[Store] = []
+        stores: List[Store[int, Value]] = []
 
         def check() -> None:
             for store in stores:
@@ -250,7 +251,7 @@ class Interrupts(AtEachStep):
 
         self.at_each_step(lambda: self.close_with_all(stores), raise_interrupt, check)
 
-    def close_with_all(self, stores: List[Store]) -> None:
+    def close_with_all(self, stores: List[Store[int, Value]]) -> None:
         store = Store(keys=1, epoch=4)
         stores.append(store)
         store[7] = 70
@@ -313,7 +314,7 @@ class CallsOfHandlers(AtEachStep):
     def test_stores_are_closed_twice(self) -> None:
         """By the handler in the midst of a close, and by another thread meanwhile."""
         await_mergers(0)
-        stores: List[Store] = []
+        stores: List[Store[int, Value]] = []
         threads: List[threading.Thread] = []
 
         def calls() -> None:

@@ -4,16 +4,21 @@ from __future__ import annotations
 
 import threading
 import unittest
+from typing import Any, Dict, Iterable, Tuple
 
-from cupolanettle import RunFull, Store
+from cupolanettle import RunFull, Store, Value
 
 PLAYERS = 10
 POINTS = 3_000
 THREADS = 4
 
 
+def total(rows: Iterable[Tuple[int, Any]]) -> int:
+    return sum(value for _, value in rows)
+
+
 class Loops(unittest.TestCase):
-    def play_beside_snapshots(self, store: Store) -> None:
+    def play_beside_snapshots(self, store: Store[int, Value]) -> None:
         """Threads add points, which others overwrite, while snapshots of them are read."""
 
         def play() -> None:
@@ -25,18 +30,18 @@ class Loops(unittest.TestCase):
             thread.start()
         while any(thread.is_alive() for thread in threads):
             with store.snapshot() as snapshot:
-                points = sum(value for _, value in snapshot.scan())
+                points = total(snapshot.scan())
                 for _ in range(10):
-                    self.assertEqual(sum(value for _, value in snapshot.scan()), points)
+                    self.assertEqual(total(snapshot.scan()), points)
         for thread in threads:
             thread.join()
-        self.assertEqual(sum(value for _, value in store.scan()), THREADS * POINTS)
+        self.assertEqual(total(store.scan()), THREADS * POINTS)
 
     def test_a_leaderboard(self) -> None:
         for merge_in_calls in False, True:
             for epoch in None, 64:
                 with self.subTest(merge_in_calls=merge_in_calls, epoch=epoch):
-                    options = {"keys": 10, "epoch": epoch, "merge_in_calls": merge_in_calls}
+                    options: Dict[str, Any] = {"keys": 10, "epoch": epoch, "merge_in_calls": merge_in_calls}
                     with Store(wait=None, **options) as store:
                         self.play_beside_snapshots(store)
 
@@ -47,6 +52,7 @@ class Loops(unittest.TestCase):
                     store[key] = 0
                 for _ in range(3):
                     for key, value in store.walk():
+                        assert isinstance(value, int)
                         store[key] = value + 1
                 self.assertEqual(list(store.scan()), [(key, 3) for key in range(keys)])
 

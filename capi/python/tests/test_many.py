@@ -6,7 +6,7 @@ import sys
 import unittest
 from functools import partial
 from random import Random
-from typing import Any, List, Tuple
+from typing import Any, Callable, List, Tuple
 
 from cupolanettle import Closed, OwnSnapshot, RunFull, Snapshot, Store, Value, text
 from cupolanettle import _core as core
@@ -58,9 +58,9 @@ class Getting(Case):
                     self.assertRaises(ValueError, reader.get_many, [1, key])
                     self.assertRaises(ValueError, reader.floor, key)
                     self.assertRaises(ValueError, reader.ceiling, key)
-                for key in "1", 1.0, None:
-                    self.assertRaises(TypeError, reader.get_many, [1, key])
-                    self.assertRaises(TypeError, reader.floor, key)
+                for wrong in "1", 1.0, None:
+                    self.assertRaises(TypeError, reader.get_many, [1, wrong])
+                    self.assertRaises(TypeError, reader.floor, wrong)
                 self.assertRaises(TypeError, reader.get_many, 7)
                 self.assertRaises(TypeError, reader._get_many, (7,))
                 self.assertRaises(TypeError, reader._end, "0", 1, False)
@@ -80,7 +80,9 @@ class Getting(Case):
 
     def test_closed_by_a_fork(self) -> None:
         def is_closed() -> bool:
-            for call in self.store.first, partial(self.store.get_many, [1]):
+            reads: List[Callable[[], object]] = [self.store.first]
+            reads.append(partial(self.store.get_many, [1]))
+            for call in reads:
                 try:
                     call()
                 except Closed:
@@ -245,7 +247,7 @@ class Downwards(Case):
 
 
 class Threads(unittest.TestCase):
-    def transfer(self, store: Store, random: Random) -> None:
+    def transfer(self, store: Store[int, Value], random: Random) -> None:
         source, target = random.sample(ACCOUNTS, 2)
         amount = random.randrange(EACH)
         old: List[Any] = store.get_many([source, target])
@@ -254,7 +256,7 @@ class Threads(unittest.TestCase):
         read = {source: old[0], target: old[1]}
         store.batch_if(read, {source: old[0] - amount, target: old[1] + amount})
 
-    def take_seat(self, store: Store, random: Random) -> None:
+    def take_seat(self, store: Store[int, Value], random: Random) -> None:
         """Of a range that never has more than five keys: a thread counts, and then writes one."""
         key = random.randrange(2_000, 3_000)
         count = store.count(2_000, 3_000)
@@ -270,7 +272,7 @@ class Threads(unittest.TestCase):
         found: List[Any] = reader.get_many(ACCOUNTS)
         return sum(found)
 
-    def work(self, store: Store, seed: int) -> None:
+    def work(self, store: Store[int, Value], seed: int) -> None:
         random = Random(seed)
         for number in range(300):
             self.transfer(store, random)

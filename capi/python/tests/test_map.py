@@ -27,7 +27,7 @@ def rows_between(model: Map, start: int, stop: Optional[int]) -> List[Row]:
 class RandomCalls:
     """Random calls of a store, each made of a dict as well."""
 
-    def __init__(self, test: unittest.TestCase, store: Store, seed: int) -> None:
+    def __init__(self, test: unittest.TestCase, store: Store[int, Value], seed: int) -> None:
         self.test = test
         self.store = store
         self.random = Random(seed)
@@ -207,7 +207,7 @@ class Values(unittest.TestCase):
         self.store = Store(keys=10_000)
         self.addCleanup(self.store.close)
 
-    def calls_of_a_value(self) -> List[Callable[[Any], object]]:
+    def calls_of_a_value(self) -> List[Callable[[Value], object]]:
         return [
             lambda value: self.store.__setitem__(5, value),
             lambda value: self.store.setdefault(5, value),
@@ -258,7 +258,8 @@ class Values(unittest.TestCase):
             def __index__(self) -> int:
                 return 7
 
-        seven: Any = Seven()
+        anything: Any = Seven()
+        seven: int = anything
         self.store[seven] = seven
         self.store[True] = seven, False
         self.assertEqual(list(self.store.scan(False, seven)), [(1, (7, 0))])
@@ -460,7 +461,7 @@ class Objects(unittest.TestCase):
 
     def test_snapshots_have_times_and_stay_as_they_are(self) -> None:
         with Store(keys=1_000, epoch=4) as store:
-            snapshots: List[Snapshot] = []
+            snapshots: List[Snapshot[int, Value]] = []
             for number in range(30):
                 snapshots.append(store.snapshot())
                 store[number % 3] = number

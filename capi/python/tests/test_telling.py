@@ -10,7 +10,17 @@ from functools import partial
 from typing import Any, Callable, List, Tuple
 
 import cupolanettle
-from cupolanettle import Closed, Conflict, KeyCodec, Store, ValueCodec, octets, pairs, text
+from cupolanettle import (
+    Closed,
+    Conflict,
+    KeyCodec,
+    Store,
+    Value,
+    ValueCodec,
+    octets,
+    pairs,
+    text,
+)
 
 from .support import in_threads
 
@@ -117,10 +127,9 @@ class Texts(unittest.TestCase):
             ],
         )
         opened: Any = Store
-        for options in {"keys": "16"}, {"keys": 16.0}, {"wait": "1"}, {"epoch": 16.0}:
-            with self.subTest(options=options):
-                name = next(iter(options))
-                self.assertRaisesRegex(TypeError, f"^{name} is a", opened, **options)
+        for name, wrong in ("keys", "16"), ("keys", 16.0), ("wait", "1"), ("epoch", 16.0):
+            with self.subTest(name=name, wrong=wrong):
+                self.assertRaisesRegex(TypeError, f"^{name} is a", opened, **{name: wrong})
 
     def test_what_is_no_codec_is_refused_at_once(self) -> None:
         opened: Any = Store
@@ -154,7 +163,7 @@ class Shown(unittest.TestCase):
         for parameter in signature.parameters.values():
             self.assertIs(parameter.kind, inspect.Parameter.KEYWORD_ONLY)
 
-        class Own(Store):
+        class Own(Store[int, Value]):
             def __init__(self, name: str) -> None:
                 super().__init__(keys=10)
 
@@ -180,9 +189,10 @@ class Shown(unittest.TestCase):
             self.assertIs(copy.copy(codec), codec)
 
     def test_what_belongs_to_a_store_is_not_copied_or_pickled(self) -> None:
+        calls: List[Callable[[object], object]] = [copy.copy, copy.deepcopy, pickle.dumps]
         with Store(keys=1_000) as store:
             for made in store.batch(), store.transaction(), store.scan(), store.walk():
-                for call in copy.copy, copy.deepcopy, pickle.dumps:
+                for call in calls:
                     kind = type(made).__name__
                     with self.subTest(kind=kind, call=call):
                         self.assertRaisesRegex(TypeError, f"{kind} cannot be copied", call, made)
@@ -216,8 +226,8 @@ class Missing(unittest.TestCase):
             with store.walk(5) as rows:
                 self.assertEqual(next(rows), (5, 5))
             self.assertEqual(list(rows), [])
-        with Store(keys=1_000, key=text) as coded, coded.scan() as rows:
-            self.assertEqual(list(rows), [])
+        with Store(keys=1_000, key=text) as coded, coded.scan() as coded_rows:
+            self.assertEqual(list(coded_rows), [])
 
     def test_rows_are_taken_out_from_either_end(self) -> None:
         with Store(keys=1_000, epoch=64) as store:

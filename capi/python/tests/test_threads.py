@@ -6,7 +6,7 @@ import threading
 import time
 import unittest
 from functools import partial
-from typing import Callable, Iterable, List, Tuple
+from typing import Any, Callable, Iterable, List, Tuple
 
 from cupolanettle import Snapshot, Store, Value, VersionsFull
 
@@ -76,11 +76,11 @@ class Threads(unittest.TestCase):
         rounds = 100
 
         def work(number: int) -> None:
-            seen = [0] * 4
+            seen: List[Any] = [0] * 4
             for i in range(rounds):
                 store.add(number % 4)
                 with self.a_few, store.snapshot() as snapshot:
-                    found = [snapshot.get(key, 0) for key in range(4)]
+                    found: List[Any] = [snapshot.get(key, 0) for key in range(4)]
                 self.assertTrue(all(old <= new for old, new in zip(seen, found)))
                 seen = [store.get(key, 0) for key in range(4)]
                 self.assertTrue(all(old <= new for old, new in zip(found, seen)))
@@ -195,7 +195,7 @@ class BesideSnapshots(unittest.TestCase):
             in_threads([read] * 4)
 
     def test_one_outlives_its_thread(self) -> None:
-        snapshots: List[Snapshot] = []
+        snapshots: List[Snapshot[int, Value]] = []
         in_threads([lambda: snapshots.append(self.store.snapshot())])
         self.store[0] = 1
         self.assertEqual(snapshots[0][0], 0)

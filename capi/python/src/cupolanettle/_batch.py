@@ -4,11 +4,22 @@ from __future__ import annotations
 
 import threading
 from types import TracebackType
-from typing import TYPE_CHECKING, Iterable, Mapping, NoReturn, Optional, Type, Union
+from typing import (
+    TYPE_CHECKING,
+    Any,
+    Generic,
+    Iterable,
+    Mapping,
+    NoReturn,
+    Optional,
+    Tuple,
+    Type,
+    overload,
+)
 
 from . import _core as core
 from ._errors import Code, Error
-from ._values import NONE, Row, Value, rows_of
+from ._values import NONE, K, V, rows_of
 
 if TYPE_CHECKING:
     from ._store import Store
@@ -16,7 +27,7 @@ if TYPE_CHECKING:
 _ROW_SIZE = len(core.pack(0, None))
 
 
-class Batch:
+class Batch(Generic[K, V]):
     """Writes that are made at one moment, in their order: each read has all of them or none.
 
     With ``with``, they are made at its end, and none of them if an error leaves it; without, by
@@ -33,12 +44,12 @@ class Batch:
     [(2, 60), (3, (40, 7))]
     """
 
-    def __init__(self, store: Store) -> None:
+    def __init__(self, store: Store[K, V]) -> None:
         self._store = store
         self._rows = bytearray()  # always the same one: whoever adds need not look
         self._lock = threading.RLock()
 
-    def __setitem__(self, key: int, value: Value) -> None:
+    def __setitem__(self, key: K, value: V) -> None:
         """Adds a write of the value at the key; ``ValueError`` as for ``store[key] = value``.
 
         >>> with Store() as store, store.batch() as batch:
@@ -51,7 +62,13 @@ class Batch:
             raise TypeError(NONE)
         self._rows.extend(self._store._pack(key, value))
 
-    def update(self, rows: Union[Mapping[int, Value], Iterable[Row]]) -> None:
+    @overload
+    def update(self, rows: Mapping[K, V]) -> None: ...
+
+    @overload
+    def update(self, rows: Iterable[Tuple[K, V]]) -> None: ...
+
+    def update(self, rows: Any) -> None:
         """Adds a write of each row of a mapping, or of an iterable of pairs, in its order.
 
         What one of them raises ends it, with those before it added.
@@ -65,7 +82,7 @@ class Batch:
         for key, value in rows_of(rows):
             self[key] = value
 
-    def remove(self, key: int) -> None:
+    def remove(self, key: K) -> None:
         """Adds a removal of the key, whether or not that has a value.
 
         >>> with Store() as store, store.batch() as batch:
@@ -120,7 +137,7 @@ class Batch:
                     raise
                 raise ValueError("a batch has at most as many writes as an epoch") from None
 
-    def __enter__(self) -> Batch:
+    def __enter__(self) -> Batch[K, V]:
         return self
 
     def __exit__(

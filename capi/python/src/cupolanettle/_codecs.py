@@ -101,12 +101,14 @@ class _Named:
 
 def checked_key_codec(codec: Optional[AnyKeyCodec]) -> AnyKeyCodec:
     """The codec, if it is one."""
-    return _checked("key", codec, "key_of", "of_key")
+    checked: AnyKeyCodec = _checked("key", codec, "key_of", "of_key")
+    return checked
 
 
 def checked_value_codec(codec: Optional[AnyValueCodec]) -> AnyValueCodec:
     """The codec, if it is one."""
-    return _checked("value", codec, "value_of", "of_value")
+    checked: AnyValueCodec = _checked("value", codec, "value_of", "of_value")
+    return checked
 
 
 def _checked(name: str, codec: Any, *methods: str) -> Any:

@@ -2,6 +2,7 @@
 
 from __future__ import annotations
 
+from functools import partial
 from typing import Any, Dict, List, Optional, Tuple
 
 from . import _core as core
@@ -9,21 +10,22 @@ from ._codecs import AnyKeyCodec, AnyValueCodec, checked_key_codec, checked_valu
 from ._reading import Reader, Rows
 from ._snapshot import Snapshot
 from ._store import Store
-from ._values import range_of
+from ._values import K, V, range_of
 
 
-class CodedRows(Rows):
+class CodedRows(Rows[K, V]):
     """Rows of a coded store."""
 
     _keys: AnyKeyCodec
     _values: AnyValueCodec
 
-    def __next__(self) -> Tuple[Any, Any]:
-        number, words = super().__next__()
+    def __next__(self) -> Tuple[K, V]:
+        row: Tuple[Any, Any] = super().__next__()
+        number, words = row
         return self._keys.of_key(number), self._values.of_value(words)
 
 
-class Coded(Reader):
+class Coded(Reader[K, V]):
     """Reads by key and by range, of a reader of numbers and words."""
 
     _keys: AnyKeyCodec
@@ -65,17 +67,17 @@ class Coded(Reader):
         first = 0 if start is None else self._keys.key_of(start)
         return range_of(first, None if stop is None else self._keys.key_of(stop))
 
-    def _rows(self, *how: Any) -> Rows:
-        rows = CodedRows(*how)
+    def _rows(self, *how: Any) -> Rows[K, V]:
+        rows: CodedRows[K, V] = CodedRows(*how)
         rows._keys, rows._values = self._keys, self._values
         return rows
 
 
-class CodedSnapshot(Coded, Snapshot):
+class CodedSnapshot(Coded[K, V], Snapshot[K, V]):
     """A snapshot of a coded store."""
 
 
-class CodedStore(Coded, Store):
+class CodedStore(Coded[K, V], Store[K, V]):
     """A store with codecs of keys and values."""
 
     def __init__(
@@ -99,7 +101,7 @@ class CodedStore(Coded, Store):
         super()._remove(self._keys.key_of(key))
 
     def _add(self, key: Any, by: Any) -> Any:
-        return self.alter(key, lambda old: self._sum(old, by))
+        return self.alter(key, partial(self._sum, by=by))
 
     def _sum(self, old: Any, by: Any) -> Any:
         return by if old is None else old + by
@@ -121,8 +123,8 @@ class CodedStore(Coded, Store):
     def _pack(self, key: Any, value: Any) -> bytes:
         return core.pack(self._keys.key_of(key), self._encoded(value))
 
-    def snapshot(self) -> Snapshot:
-        snapshot = CodedSnapshot(self)
+    def snapshot(self) -> Snapshot[K, V]:
+        snapshot: CodedSnapshot[K, V] = CodedSnapshot(self)
         snapshot._keys, snapshot._values = self._keys, self._values
         return snapshot
 

@@ -2,19 +2,31 @@
 
 from __future__ import annotations
 
-from typing import Any, Iterable, List, NoReturn, Optional, Tuple, TypeVar, Union, overload
+from typing import (
+    TYPE_CHECKING,
+    Any,
+    Generic,
+    Iterable,
+    List,
+    NoReturn,
+    Optional,
+    Tuple,
+    TypeVar,
+    Union,
+    overload,
+)
 
 from . import _core as core
 from ._buffers import items_of, marks_in, room_in, words_in
-from ._values import Row, Value, key_of, range_of, word_of
+from ._values import K, V, key_of, range_of, word_of
 
 Default = TypeVar("Default")
-Itself = TypeVar("Itself", bound="Rows")
+Itself = TypeVar("Itself", bound="Rows[Any, Any]")
 
 _GREATEST_KEY = 2**64 - 1
 
 
-class Rows(core.Rows):
+class Rows(core.Rows, Generic[K, V]):
     """An iterator over rows by rising or falling key: of one moment, or of each page's own.
 
     :meth:`Store.scan` and :meth:`Snapshot.scan` make those of one moment, and :meth:`Store.walk`
@@ -26,6 +38,10 @@ class Rows(core.Rows):
     ...     next(rows), next(rows, None)
     ((7, 70), None)
     """
+
+    if TYPE_CHECKING:
+
+        def __next__(self) -> Tuple[K, V]: ...
 
     def __enter__(self: Itself) -> Itself:
         return self
@@ -52,16 +68,18 @@ class Rows(core.Rows):
         raise TypeError(f"a {type(self).__name__} cannot be copied or pickled")
 
 
-class Reader:
+class Reader(Generic[K, V]):
     """Reads by key and by range."""
 
-    def _get(self, key: int, default: object) -> Any:
+    # What users do not call has keys and values as codecs leave them: of any type.
+
+    def _get(self, key: Any, default: object) -> Any:
         raise NotImplementedError
 
-    def _has(self, key: int) -> bool:
+    def _has(self, key: Any) -> bool:
         raise NotImplementedError
 
-    def _get_many(self, keys: List[int]) -> List[Optional[Value]]:
+    def _get_many(self, keys: List[Any]) -> List[Any]:
         raise NotImplementedError
 
     def _get_into(
@@ -69,13 +87,13 @@ class Reader:
     ) -> int:
         raise NotImplementedError
 
-    def _end(self, first: int, last: int, falls: bool) -> Optional[Row]:
+    def _end(self, first: int, last: int, falls: bool) -> Optional[Tuple[Any, Any]]:
         raise NotImplementedError
 
     def _count(self, first: int, last: int) -> int:
         raise NotImplementedError
 
-    def _number(self, key: int) -> int:
+    def _number(self, key: Any) -> int:
         """The key as the library has it."""
         return key_of(key)
 
@@ -91,14 +109,14 @@ class Reader:
         """The value of these words."""
         return words
 
-    def _range(self, start: Optional[int], stop: Optional[int]) -> Tuple[int, int]:
+    def _range(self, start: Any, stop: Any) -> Tuple[int, int]:
         """The first and the last key of the range; the first is greater if it is empty."""
         return range_of(0 if start is None else start, stop)
 
-    def _rows(self, *how: Any) -> Rows:
+    def _rows(self, *how: Any) -> Rows[K, V]:
         return Rows(*how)
 
-    def __getitem__(self, key: int) -> Value:
+    def __getitem__(self, key: K) -> V:
         """The value of the key; ``KeyError`` if it has none.
 
         >>> with Store() as store:
@@ -106,18 +124,18 @@ class Reader:
         ...     store[7]
         70
         """
-        value: Optional[Value] = self._get(key, None)
+        value: Optional[V] = self._get(key, None)
         if value is None:
             raise KeyError(key)
         return value
 
     @overload
-    def get(self, key: int) -> Optional[Value]: ...
+    def get(self, key: K) -> Optional[V]: ...
 
     @overload
-    def get(self, key: int, default: Default) -> Union[Value, Default]: ...
+    def get(self, key: K, default: Default) -> Union[V, Default]: ...
 
-    def get(self, key: int, default: object = None) -> object:
+    def get(self, key: K, default: object = None) -> object:
         """The value of the key, or the default if it has none.
 
         >>> with Store() as store:
@@ -127,7 +145,7 @@ class Reader:
         """
         return self._get(key, default)
 
-    def get_many(self, keys: Iterable[int]) -> List[Optional[Value]]:
+    def get_many(self, keys: Iterable[K]) -> List[Optional[V]]:
         """The values of the keys at one moment, each at the place of its key; ``None`` for none.
 
         >>> with Store() as store:
@@ -168,7 +186,9 @@ class Reader:
                     raise ValueError("the buffers have not the same number of items")
                 return self._get_into(numbers, words, word, marks)
 
-    def first(self, start: Optional[int] = None, stop: Optional[int] = None) -> Optional[Row]:
+    def first(
+        self, start: Optional[K] = None, stop: Optional[K] = None
+    ) -> Optional[Tuple[K, V]]:
         """The row of the least key from ``start`` on and below ``stop`` with a value, if any.
 
         >>> with Store() as store:
@@ -178,7 +198,9 @@ class Reader:
         """
         return self._end(*self._range(start, stop), False)
 
-    def last(self, start: Optional[int] = None, stop: Optional[int] = None) -> Optional[Row]:
+    def last(
+        self, start: Optional[K] = None, stop: Optional[K] = None
+    ) -> Optional[Tuple[K, V]]:
         """The row of the greatest key from ``start`` on and below ``stop`` with a value, if any.
 
         >>> with Store() as store:
@@ -188,7 +210,7 @@ class Reader:
         """
         return self._end(*self._range(start, stop), True)
 
-    def floor(self, key: int) -> Optional[Row]:
+    def floor(self, key: K) -> Optional[Tuple[K, V]]:
         """The row of the greatest key that has a value and is not above this one, if any.
 
         >>> with Store() as store:
@@ -198,7 +220,7 @@ class Reader:
         """
         return self._end(0, self._number(key), True)
 
-    def ceiling(self, key: int) -> Optional[Row]:
+    def ceiling(self, key: K) -> Optional[Tuple[K, V]]:
         """The row of the least key that has a value and is not below this one, if any.
 
         >>> with Store() as store:
@@ -208,7 +230,7 @@ class Reader:
         """
         return self._end(self._number(key), _GREATEST_KEY, False)
 
-    def __contains__(self, key: int) -> bool:
+    def __contains__(self, key: object) -> bool:
         """Whether the key has a value.
 
         >>> with Store() as store:
@@ -218,7 +240,7 @@ class Reader:
         """
         return self._has(key)
 
-    def count(self, start: Optional[int] = None, stop: Optional[int] = None) -> int:
+    def count(self, start: Optional[K] = None, stop: Optional[K] = None) -> int:
         """How many keys from ``start`` on and below ``stop`` have a value; visits all of them.
 
         Without ``start`` it begins at the least key; without ``stop`` there is no upper end. The

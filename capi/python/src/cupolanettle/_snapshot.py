@@ -2,52 +2,52 @@
 
 from __future__ import annotations
 
-from typing import ItemsView, Iterator, KeysView, Mapping, Optional, ValuesView
+from typing import Any, ItemsView, Iterator, KeysView, Mapping, Optional, Tuple, ValuesView
 
 from . import _core as core
 from ._errors import Closed
 from ._reading import Reader, Rows
-from ._values import Row, Value
+from ._values import K, V
 
 # Short scans read little, long ones make few calls.
 FIRST_ROOM = 64
 GREATEST_ROOM = 1_024
 
 
-class Keys(KeysView[int]):
+class Keys(KeysView[K]):
     """The keys of a snapshot."""
 
-    _mapping: Snapshot
+    _mapping: Snapshot[K, Any]
 
-    def __reversed__(self) -> Iterator[int]:
+    def __reversed__(self) -> Iterator[K]:
         return reversed(self._mapping)
 
 
-class Items(ItemsView[int, Value]):
+class Items(ItemsView[K, V]):
     """The rows of a snapshot."""
 
-    _mapping: Snapshot
+    _mapping: Snapshot[K, V]
 
-    def __iter__(self) -> Iterator[Row]:
+    def __iter__(self) -> Iterator[Tuple[K, V]]:
         return self._mapping.scan()
 
-    def __reversed__(self) -> Iterator[Row]:
+    def __reversed__(self) -> Iterator[Tuple[K, V]]:
         return self._mapping.scan(reverse=True)
 
 
-class Values(ValuesView[Value]):
+class Values(ValuesView[V]):
     """The values of a snapshot."""
 
-    _mapping: Snapshot
+    _mapping: Snapshot[Any, V]
 
-    def __iter__(self) -> Iterator[Value]:
+    def __iter__(self) -> Iterator[V]:
         return (value for _, value in self._mapping.scan())
 
-    def __reversed__(self) -> Iterator[Value]:
+    def __reversed__(self) -> Iterator[V]:
         return (value for _, value in self._mapping.scan(reverse=True))
 
 
-class Snapshot(core.Snapshot, Reader, Mapping[int, Value]):
+class Snapshot(core.Snapshot, Reader[K, V], Mapping[K, V]):
     """The map as it was when the snapshot was opened, by :meth:`Store.snapshot`.
 
     It is a ``collections.abc.Mapping``, by rising key, which is read by any thread while threads
@@ -68,11 +68,11 @@ class Snapshot(core.Snapshot, Reader, Mapping[int, Value]):
 
     # ---- As a mapping
 
-    def __iter__(self) -> Iterator[int]:
+    def __iter__(self) -> Iterator[K]:
         """The keys, by rising key."""
         return (key for key, _ in self.scan())
 
-    def __reversed__(self) -> Iterator[int]:
+    def __reversed__(self) -> Iterator[K]:
         """The keys, by falling key.
 
         >>> with Store() as store:
@@ -91,7 +91,7 @@ class Snapshot(core.Snapshot, Reader, Mapping[int, Value]):
         """Whether a key has a value."""
         return next(self.scan(), None) is not None
 
-    def keys(self) -> KeysView[int]:
+    def keys(self) -> Keys[K]:
         """The keys, by rising key: a view that can be gone over again, and reversed.
 
         >>> with Store() as store:
@@ -102,7 +102,7 @@ class Snapshot(core.Snapshot, Reader, Mapping[int, Value]):
         """
         return Keys(self)
 
-    def items(self) -> ItemsView[int, Value]:
+    def items(self) -> Items[K, V]:
         """The rows, by rising key: a view that can be gone over again.
 
         >>> with Store() as store:
@@ -113,7 +113,7 @@ class Snapshot(core.Snapshot, Reader, Mapping[int, Value]):
         """
         return Items(self)
 
-    def values(self) -> ValuesView[Value]:
+    def values(self) -> Values[V]:
         """The values, by rising key: a view that can be gone over again.
 
         >>> with Store() as store:
@@ -145,8 +145,8 @@ class Snapshot(core.Snapshot, Reader, Mapping[int, Value]):
         return self._time
 
     def scan(
-        self, start: Optional[int] = None, stop: Optional[int] = None, reverse: bool = False
-    ) -> Rows:
+        self, start: Optional[K] = None, stop: Optional[K] = None, reverse: bool = False
+    ) -> Rows[K, V]:
         """The snapshot's iterator: its rows from ``start`` on and below ``stop``, of its moment.
 
         A row is a key and its value; they come by rising key, or by falling key, where each costs

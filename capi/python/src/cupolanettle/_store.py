@@ -20,7 +20,7 @@ from typing import (
 
 from . import _core as core
 from ._batch import Batch
-from ._codecs import AnyKeyCodec, AnyValueCodec
+from ._codecs import AnyKeyCodec, AnyValueCodec, KeyCodec, ValueCodec
 from ._errors import Closed, Code, Conflict, Error
 from ._options import (
     NO_DEFAULT,
@@ -34,29 +34,25 @@ from ._options import (
 from ._reading import Default, Rows
 from ._snapshot import FIRST_ROOM, GREATEST_ROOM, Snapshot
 from ._statistics import Statistics, statistics_of
-from ._transaction import RANGE_COUNT, Transaction
-from ._values import Row, Value, rows_of, word_of
+from ._transaction import Transaction
+from ._values import K, Row, V, Value, rows_of
 from ._writing import Writer
 
-Itself = TypeVar("Itself", bound="Store")
+Itself = TypeVar("Itself", bound="Store[Any, Any]")
 Answer = TypeVar("Answer")
-Function = Callable[[Optional[Value]], Optional[Value]]
-Keep = Callable[[int, Value], object]
-AnyRows = Union[Mapping[int, Optional[Value]], Iterable[Tuple[int, Optional[Value]]]]
-Bounds = Tuple[Optional[int], Optional[int]]
-Counts = Union[Mapping[Bounds, int], Iterable[Tuple[Bounds, int]]]
+Sum = TypeVar("Sum", float, str, bytes)
+Function = Callable[[Optional[V]], Optional[V]]
+Keep = Callable[[K, V], object]
 
-_COUNT = "a count is a pair of a range, which is a pair of bounds, and a number"
 _FIRST_PAUSE = 10e-6  # seconds, behind a conflict
 _LONGEST_PAUSE = 1e-3
 
 
-def _nothing(_: Optional[Value]) -> Optional[Value]:
+def _nothing(_: object) -> None:
     """No value, whatever the key had."""
-    return None
 
 
-class Store(core.Store, Writer):
+class Store(core.Store, Writer[K, V]):
     """An ordered map in memory, for many threads, from ints to ints or tuples of ints.
 
     Keys and words are from 0 to 2**64 - 1. A value is an int, or a tuple of 2 to 8 ints.
@@ -106,7 +102,7 @@ class Store(core.Store, Writer):
     """
 
     # What a store with codecs is made of.
-    _coded: ClassVar[Type[Store]]
+    _coded: ClassVar[Type[Store[Any, Any]]]
 
     # A class with __getitem__ would otherwise be asked for the keys 0, 1, 2 ..
     __iter__: None = None
@@ -120,6 +116,34 @@ class Store(core.Store, Writer):
         made: Itself = super().__new__(chosen)
         return made
 
+    @overload
+    def __init__(
+        self: Store[int, Value], *, key: None = ..., value: None = ...,
+        keys: int = ..., epoch: Optional[int] = ..., versions: Optional[int] = ...,
+        wait: Optional[float] = ..., patience: int = ..., merge_in_calls: bool = ...,
+    ) -> None: ...
+
+    @overload
+    def __init__(
+        self: Store[K, Value], *, key: KeyCodec[K], value: None = ...,
+        keys: int = ..., epoch: Optional[int] = ..., versions: Optional[int] = ...,
+        wait: Optional[float] = ..., patience: int = ..., merge_in_calls: bool = ...,
+    ) -> None: ...
+
+    @overload
+    def __init__(
+        self: Store[int, V], *, key: None = ..., value: ValueCodec[V],
+        keys: int = ..., epoch: Optional[int] = ..., versions: Optional[int] = ...,
+        wait: Optional[float] = ..., patience: int = ..., merge_in_calls: bool = ...,
+    ) -> None: ...
+
+    @overload
+    def __init__(
+        self: Store[K, V], *, key: KeyCodec[K], value: ValueCodec[V],
+        keys: int = ..., epoch: Optional[int] = ..., versions: Optional[int] = ...,
+        wait: Optional[float] = ..., patience: int = ..., merge_in_calls: bool = ...,
+    ) -> None: ...
+
     def __init__(
         self,
         *,
@@ -131,7 +155,7 @@ class Store(core.Store, Writer):
         wait: Optional[float] = 1.0,
         patience: int = 64,
         merge_in_calls: bool = False,
-        _source: Optional[Store] = None,
+        _source: Optional[Store[Any, Any]] = None,
     ) -> None:
         self._options: Dict[str, Any] = dict(
             keys=keys,
@@ -173,7 +197,7 @@ class Store(core.Store, Writer):
         """The codecs of keys and values, by the names of the options."""
         return {}
 
-    def copy(self, **options: Any) -> Store:
+    def copy(self, **options: Any) -> Store[K, V]:
         """A store of its own with all rows that this one has at one moment: a larger one, say.
 
         It has the options of this store but for those that are given, and the same codecs. What is
@@ -192,7 +216,8 @@ class Store(core.Store, Writer):
         """
         if not options.keys() <= self._options.keys():
             raise TypeError(f"copy takes {', '.join(self._options)}")
-        return Store(**self._codecs(), **{**self._options, **options}, _source=self)
+        opened: Callable[..., Store[K, V]] = Store
+        return opened(**self._codecs(), **{**self._options, **options}, _source=self)
 
     def stats(self) -> Statistics:
         """What the store tells of itself: memory, what is open, room, merges, waits and refusals.
@@ -209,11 +234,11 @@ class Store(core.Store, Writer):
 
     # ---- Writes
 
-    def _pack(self, key: int, value: Optional[Value]) -> bytes:
+    def _pack(self, key: Any, value: Any) -> bytes:
         """A row as the library has it; ``None`` stands for no value."""
         return core.pack(key, value)
 
-    def __setitem__(self, key: int, value: Value) -> None:
+    def __setitem__(self, key: K, value: V) -> None:
         """Writes the value at the key.
 
         ``ValueError`` if the key or a word is out of range, or the tuple has not 2 to 8 words: a
@@ -228,7 +253,7 @@ class Store(core.Store, Writer):
         """
         self._put(key, value)
 
-    def remove(self, key: int) -> None:
+    def remove(self, key: K) -> None:
         """Removes the key, whether or not it has a value.
 
         It takes room as a write does: :class:`VersionsFull` if there is none.
@@ -242,7 +267,13 @@ class Store(core.Store, Writer):
         """
         self._remove(key)
 
-    def update(self, rows: Union[Mapping[int, Value], Iterable[Row]]) -> None:
+    @overload
+    def update(self, rows: Mapping[K, V]) -> None: ...
+
+    @overload
+    def update(self, rows: Iterable[Tuple[K, V]]) -> None: ...
+
+    def update(self, rows: Any) -> None:
         """Writes each row of a mapping, or of an iterable of pairs, in its order.
 
         Each is a write of its own, so that threads see some of them before others; :meth:`batch`
@@ -258,7 +289,7 @@ class Store(core.Store, Writer):
         for key, value in rows_of(rows):
             self._put(key, value)
 
-    def batch(self) -> Batch:
+    def batch(self) -> Batch[K, V]:
         """A batch: writes that are made at one moment, at the end of its ``with``.
 
         >>> with Store() as store:
@@ -271,40 +302,13 @@ class Store(core.Store, Writer):
         """
         return Batch(self)
 
-    def batch_if(self, expected: AnyRows, rows: AnyRows, counts: Counts = ()) -> bool:
-        """Writes all rows at one moment, if all that is expected is there at that moment. Whether
-        it is.
+    @overload
+    def transaction(self: Store[int, Value]) -> Transaction: ...
 
-        Rows are a mapping or pairs. Of what is expected, ``None`` stands for no value; of what is
-        written, it removes its key. ``counts`` tells how many keys of ranges, which are pairs of
-        ``start`` and ``stop``, have a value. So a thread reads, decides, and writes if all that it
-        read still stands. Without rows it only tests.
+    @overload
+    def transaction(self) -> Any: ...
 
-        No other write runs while it tests, which costs a read of each key, and a visit of each key
-        of the ranges. It waits as a write does. ``ValueError`` if there are more rows than an epoch
-        of the store has; :class:`RunFull`, :class:`VersionsFull`, or :class:`Error` if memory ran
-        out. Nothing was written then.
-
-        >>> with Store() as store:
-        ...     store[1] = 10
-        ...     store.batch_if({1: 10, 2: None}, {1: 3, 2: 7}, {(0, 100): 1})
-        ...     store.batch_if({1: 10}, {1: None}), store.batch_if({1: 3, 2: 7}, {})
-        ...     list(store.scan())
-        True
-        (False, True)
-        [(1, 3), (2, 7)]
-        """
-        ranges = counts.items() if isinstance(counts, Mapping) else counts
-        packed = b"".join(map(self._pack_count, ranges))
-        try:
-            unmet = self._write_if(self._pack_all(expected), packed, self._pack_all(rows))
-        except Error as error:
-            if error.code != Code.BAD_BATCH:
-                raise
-            raise ValueError("a batch has at most as many writes as an epoch") from None
-        return unmet is None
-
-    def transaction(self) -> Transaction:
+    def transaction(self) -> Any:
         """A transaction: it reads one moment, and its writes are made if that still stands.
 
         They are made at the end of its ``with``; :class:`Conflict` if others have changed what it
@@ -320,7 +324,15 @@ class Store(core.Store, Writer):
         """
         return Transaction(self)
 
-    def transact(self, function: Callable[[Transaction], Answer], tries: int = 100) -> Answer:
+    @overload
+    def transact(
+        self: Store[int, Value], function: Callable[[Transaction], Answer], tries: int = ...
+    ) -> Answer: ...
+
+    @overload
+    def transact(self, function: Callable[[Any], Answer], tries: int = ...) -> Answer: ...
+
+    def transact(self, function: Callable[[Any], Answer], tries: int = 100) -> Answer:
         """Runs the function on a transaction, again after a conflict. What the function answers.
 
         It runs so many times at most, and once at least, after pauses that grow up to a
@@ -348,24 +360,21 @@ class Store(core.Store, Writer):
                 transaction.cancel()
         raise Conflict(Code.CONFLICT)
 
-    def _pack_all(self, rows: AnyRows) -> bytes:
-        return b"".join(self._pack(key, value) for key, value in rows_of(rows))
-
-    def _pack_count(self, count: Tuple[Bounds, int]) -> bytes:
-        try:
-            (start, stop), keys = count
-        except TypeError:
-            raise TypeError(_COUNT) from None
-        except ValueError:
-            raise ValueError(_COUNT) from None
-        return RANGE_COUNT.pack(*self._range(start, stop), word_of(keys))
-
     def _plain_end(self, first: int, last: int, falls: bool) -> Optional[Row]:
         return core.Store._end(self, first, last, falls)
 
     # ---- Changes
 
-    def add(self, key: int, by: int = 1) -> int:
+    @overload
+    def add(self: Union[Store[K, Value], Store[K, int]], key: K, by: int = ...) -> int: ...
+
+    @overload
+    def add(self: Store[K, Sum], key: K, by: Sum = ...) -> Sum: ...
+
+    @overload
+    def add(self, key: K, by: V = ...) -> Any: ...
+
+    def add(self, key: K, by: Any = 1) -> Any:
         """Adds to the int of the key, which counts as 0 if it has no value. The sum.
 
         ``OverflowError`` if the sum would pass 2**64 - 1. ``ValueError`` if the value is a tuple,
@@ -380,7 +389,7 @@ class Store(core.Store, Writer):
         """
         return self._add(key, by)
 
-    def setdefault(self, key: int, value: Value) -> Value:
+    def setdefault(self, key: K, value: V) -> V:
         """Writes the value at the key if the key has none. The value that the key has then.
 
         ``ValueError`` and :class:`Error` as for ``store[key] = value``; it takes no room if the
@@ -390,12 +399,10 @@ class Store(core.Store, Writer):
         ...     store.setdefault(7, 70), store.setdefault(7, 71), store[7]
         (70, 70, 70)
         """
-        held: Value = self._put_if_absent(key, value)
+        held: V = self._put_if_absent(key, value)
         return held
 
-    def replace(
-        self, key: int, expected: Optional[Value], desired: Optional[Value]
-    ) -> bool:
+    def replace(self, key: K, expected: Optional[V], desired: Optional[V]) -> bool:
         """Writes the desired value at the key if the key has the expected one. Whether it had.
 
         ``None`` stands for no value: if it is expected, the key is to have none; if it is desired,
@@ -410,7 +417,7 @@ class Store(core.Store, Writer):
         """
         return self._replace(key, expected, desired)[0]
 
-    def alter(self, key: int, function: Function) -> Optional[Value]:
+    def alter(self, key: K, function: Function[V]) -> Optional[V]:
         """Writes what the function makes of the key's value. The value that the key has then.
 
         ``None`` stands for no value: the function gets it if the key has none, and answers it to
@@ -427,12 +434,12 @@ class Store(core.Store, Writer):
         return self._alter(key, function)[1]
 
     @overload
-    def pop(self, key: int) -> Value: ...
+    def pop(self, key: K) -> V: ...
 
     @overload
-    def pop(self, key: int, default: Default) -> Union[Value, Default]: ...
+    def pop(self, key: K, default: Default) -> Union[V, Default]: ...
 
-    def pop(self, key: int, default: object = NO_DEFAULT) -> object:
+    def pop(self, key: K, default: object = NO_DEFAULT) -> object:
         """Removes the key. The value that it had.
 
         If it had none, the default, or ``KeyError`` without one; that takes no room.
@@ -450,7 +457,7 @@ class Store(core.Store, Writer):
             raise KeyError(key)
         return default
 
-    def __delitem__(self, key: int) -> None:
+    def __delitem__(self, key: K) -> None:
         """Removes the key; ``KeyError`` if it has no value.
 
         Of several threads that delete a value, one does. :meth:`remove` is faster: it does not look
@@ -465,9 +472,9 @@ class Store(core.Store, Writer):
         """
         self.pop(key)
 
-    def _alter(self, key: int, function: Function) -> Tuple[Optional[Value], Optional[Value]]:
+    def _alter(self, key: K, function: Function[V]) -> Tuple[Optional[V], Optional[V]]:
         """What the key had, and what it has since the function changed that."""
-        old: Optional[Value] = self._get(key, None)
+        old: Optional[V] = self._get(key, None)
         while True:
             new = function(old)
             if new is None and old is None:
@@ -478,7 +485,7 @@ class Store(core.Store, Writer):
 
     # ---- Reads of one moment
 
-    def snapshot(self) -> Snapshot:
+    def snapshot(self) -> Snapshot[K, V]:
         """Opens a snapshot of the present; keeps a seat until it is closed.
 
         >>> with Store() as store:
@@ -490,8 +497,8 @@ class Store(core.Store, Writer):
         return Snapshot(self)
 
     def scan(
-        self, start: Optional[int] = None, stop: Optional[int] = None, reverse: bool = False
-    ) -> Rows:
+        self, start: Optional[K] = None, stop: Optional[K] = None, reverse: bool = False
+    ) -> Rows[K, V]:
         """A snapshot's iterator: the rows from ``start`` on and below ``stop``, all of one moment.
 
         A row is a key and its value; they come by rising key, or by falling key, where each costs
@@ -512,7 +519,7 @@ class Store(core.Store, Writer):
 
     # ---- Each page's own moment
 
-    def walk(self, start: Optional[int] = None, stop: Optional[int] = None) -> Rows:
+    def walk(self, start: Optional[K] = None, stop: Optional[K] = None) -> Rows[K, V]:
         """No snapshot, but an iterator for loops that write: each 64 rows are of their own moment.
 
         It has the rows from ``start`` on and below ``stop`` by rising key, and keeps no versions and
@@ -529,7 +536,9 @@ class Store(core.Store, Writer):
         """
         return self._rows(self, *self._range(start, stop), FIRST_ROOM, FIRST_ROOM, False)
 
-    def retain(self, keep: Keep, start: Optional[int] = None, stop: Optional[int] = None) -> int:
+    def retain(
+        self, keep: Keep[K, V], start: Optional[K] = None, stop: Optional[K] = None
+    ) -> int:
         """Walks, and removes each key for which ``keep(key, value)`` is false. How many it removed.
 
         It never removes a value that ``keep`` did not see: a key that was given another one

@@ -3,13 +3,17 @@
 from __future__ import annotations
 
 import operator
-from typing import Any, Iterable, Mapping, Optional, Sequence, Tuple, Union
+from typing import Any, Iterable, Mapping, Optional, Sequence, Tuple, TypeVar, Union
 
 Value = Union[int, Tuple[int, ...]]
 """A value of a store: an int is one word, a tuple of 2 to 8 ints several."""
 
 Row = Tuple[int, Value]
 """A key and its value."""
+
+K = TypeVar("K")
+V = TypeVar("V")
+"""Of the keys and the values of a store; without codecs they are ``int`` and :data:`Value`."""
 
 _LIMIT = 2**64
 _EMPTY_RANGE = (1, 0)

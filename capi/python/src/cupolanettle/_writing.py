@@ -3,22 +3,26 @@
 from __future__ import annotations
 
 from itertools import islice
-from typing import Any, Iterable, List, Mapping, Optional, Union, overload
+from typing import Any, Iterable, List, Mapping, Optional, Tuple, Union, overload
 
 from . import _core as core
 from ._buffers import words_in
-from ._errors import Error
+from ._errors import Code, Error
 from ._reading import Reader
 from ._transaction import RANGE_COUNT
-from ._values import NONE, Row, Value, rows_of, word_of
+from ._values import NONE, K, Row, V, Value, rows_of, word_of
 
 # Rows of a batch, if the epoch has four times as much room.
 _BATCH = 256
 _LEAST_EPOCH = 4_096  # of those that are not given
 _GREATEST_WORD = 2**64 - 1
+_COUNT = "a count is a pair of a range, which is a pair of bounds, and a number"
+
+AnyRows = Union[Mapping[K, V], Iterable[Tuple[K, V]]]
+Bounds = Tuple[Optional[K], Optional[K]]
 
 
-class Writer(Reader):
+class Writer(Reader[K, V]):
     """Writes many keys, in batches that leave most of an epoch's room to other writes."""
 
     _batch_rows = _BATCH
@@ -34,7 +38,7 @@ class Writer(Reader):
     def _remove_range(self, first: int, last: int, removed: List[int]) -> None:
         raise NotImplementedError
 
-    def _pack(self, key: int, value: Optional[Value]) -> bytes:
+    def _pack(self, key: Any, value: Any) -> bytes:
         raise NotImplementedError
 
     def _write_if(self, expected: bytes, counts: bytes, rows: bytes) -> Optional[int]:
@@ -58,7 +62,10 @@ class Writer(Reader):
         self._batch_rows = max(1, min(_BATCH, (_LEAST_EPOCH if epoch is None else epoch) // 4))
 
     @overload
-    def put_many(self, rows: Union[Mapping[int, Value], Iterable[Row]]) -> None: ...
+    def put_many(self, rows: Mapping[K, V]) -> None: ...
+
+    @overload
+    def put_many(self, rows: Iterable[Tuple[K, V]]) -> None: ...
 
     @overload
     def put_many(self, rows: Any, words: Any) -> None: ...
@@ -97,7 +104,7 @@ class Writer(Reader):
                 error.written = written[0]
                 raise
 
-    def _put_rows(self, pairs: Iterable[Row]) -> None:
+    def _put_rows(self, pairs: Iterable[Any]) -> None:
         written = 0
         left = iter(pairs)
         while True:
@@ -112,12 +119,73 @@ class Writer(Reader):
                 raise
             written += len(packed)
 
-    def _pack_value(self, key: int, value: Value) -> bytes:
+    def _pack_value(self, key: Any, value: Any) -> bytes:
         if value is None:
             raise TypeError(NONE)
         return self._pack(key, value)
 
-    def remove_range(self, start: Optional[int] = None, stop: Optional[int] = None) -> int:
+    @overload
+    def batch_if(
+        self,
+        expected: Mapping[K, Optional[V]],
+        rows: Mapping[K, Optional[V]],
+        counts: Mapping[Bounds[K], int] = ...,
+    ) -> bool: ...
+
+    @overload
+    def batch_if(
+        self,
+        expected: AnyRows[K, Optional[V]],
+        rows: AnyRows[K, Optional[V]],
+        counts: AnyRows[Bounds[K], int] = ...,
+    ) -> bool: ...
+
+    def batch_if(self, expected: Any, rows: Any, counts: Any = ()) -> bool:
+        """Writes all rows at one moment, if all that is expected is there at that moment. Whether
+        it is.
+
+        Rows are a mapping or pairs. Of what is expected, ``None`` stands for no value; of what is
+        written, it removes its key. ``counts`` tells how many keys of ranges, which are pairs of
+        ``start`` and ``stop``, have a value. So a thread reads, decides, and writes if all that it
+        read still stands. Without rows it only tests.
+
+        No other write runs while it tests, which costs a read of each key, and a visit of each key
+        of the ranges. It waits as a write does. ``ValueError`` if there are more rows than an epoch
+        of the store has; :class:`RunFull`, :class:`VersionsFull`, or :class:`Error` if memory ran
+        out. Nothing was written then.
+
+        >>> with Store() as store:
+        ...     store[1] = 10
+        ...     store.batch_if({1: 10, 2: None}, {1: 3, 2: 7}, {(0, 100): 1})
+        ...     store.batch_if({1: 10}, {1: None}), store.batch_if({1: 3, 2: 7}, {})
+        ...     list(store.scan())
+        True
+        (False, True)
+        [(1, 3), (2, 7)]
+        """
+        ranges = counts.items() if isinstance(counts, Mapping) else counts
+        packed = b"".join(map(self._pack_count, ranges))
+        try:
+            unmet = self._write_if(self._pack_all(expected), packed, self._pack_all(rows))
+        except Error as error:
+            if error.code != Code.BAD_BATCH:
+                raise
+            raise ValueError("a batch has at most as many writes as an epoch") from None
+        return unmet is None
+
+    def _pack_all(self, rows: Any) -> bytes:
+        return b"".join(self._pack(key, value) for key, value in rows_of(rows))
+
+    def _pack_count(self, count: Any) -> bytes:
+        try:
+            (start, stop), keys = count
+        except TypeError:
+            raise TypeError(_COUNT) from None
+        except ValueError:
+            raise ValueError(_COUNT) from None
+        return RANGE_COUNT.pack(*self._range(start, stop), word_of(keys))
+
+    def remove_range(self, start: Optional[K] = None, stop: Optional[K] = None) -> int:
         """Removes the keys from ``start`` on and below ``stop``. How many it removed.
 
         It is not one moment: it reads pages of up to 64 rows, and removes the keys of each by a
@@ -142,7 +210,9 @@ class Writer(Reader):
             raise
         return removed[0]
 
-    def pop_first(self, start: Optional[int] = None, stop: Optional[int] = None) -> Optional[Row]:
+    def pop_first(
+        self, start: Optional[K] = None, stop: Optional[K] = None
+    ) -> Optional[Tuple[K, V]]:
         """Removes the least key from ``start`` on and below ``stop``. Its row; ``None`` without one.
 
         It is one step: at that moment the row was the first of these, and so threads that take rows
@@ -157,7 +227,9 @@ class Writer(Reader):
         """
         return self._pop(*self._range(start, stop), False)
 
-    def pop_last(self, start: Optional[int] = None, stop: Optional[int] = None) -> Optional[Row]:
+    def pop_last(
+        self, start: Optional[K] = None, stop: Optional[K] = None
+    ) -> Optional[Tuple[K, V]]:
         """Removes the greatest key from ``start`` on and below ``stop``, as :meth:`pop_first`.
 
         >>> with Store() as store:
@@ -167,7 +239,7 @@ class Writer(Reader):
         """
         return self._pop(*self._range(start, stop), True)
 
-    def _pop(self, first: int, last: int, falls: bool) -> Optional[Row]:
+    def _pop(self, first: int, last: int, falls: bool) -> Optional[Tuple[K, V]]:
         while True:
             row = self._plain_end(first, last, falls)
             if row is None:
