@@ -381,7 +381,10 @@ with Store(keys=1, epoch=4, wait=None, merge_in_calls=True) as store:
     thread.start()
     thread.join()
 
+    writes = threading.Event()
+
     def interrupt():
+        writes.wait()
         before = -1
         while store.stats().clock != before:  # until no write comes any more
             before = store.stats().clock
@@ -393,6 +396,7 @@ with Store(keys=1, epoch=4, wait=None, merge_in_calls=True) as store:
     thread = threading.Thread(target=interrupt)
     thread.start()
     try:
+        writes.set()
         while True:
             store.add(7)
     except KeyboardInterrupt:
