@@ -130,7 +130,7 @@ static void write_all(clsm_caller *other) {
 /* A read of the keys from 2001 to 2017, and that of its keys whose changes are conflicts; of those
  * of a count only such as come or go. It is made behind writes of its own. */
 struct looking {
-    enum { PAGE, DOWN, END, END_DOWN, COUNT } kind;
+    enum kind { PAGE, DOWN, END, END_DOWN, COUNT } kind;
     size_t room;
     uint64_t own[2]; /* its writes: a removal, if the key has a value */
     uint64_t keys;   /* of rows that it finds, or that it counts */
@@ -215,7 +215,7 @@ static void conflict(clsm_caller *caller, clsm_caller *other) {
 static void conflict_where_none_is(clsm_caller *caller, clsm_caller *other) {
     const uint64_t word = NEW;
     for (int kind = PAGE; kind <= COUNT; kind++) {
-        const struct looking of = {.kind = kind, .room = 1};
+        const struct looking of = {.kind = (enum kind)kind, .room = 1};
         for (uint64_t key = 2006; key <= 2010; key++) {
             clsm_transaction *transaction = begun(caller);
             write_all(other);
@@ -293,7 +293,8 @@ static void read_one_moment(clsm_caller *caller, clsm_caller *other) {
         write_all(other);
         OK(clsm_follow(caller, clsm_seen(other)));
         for (int more = 0; more <= COUNT; more++) {
-            const struct looking of = {.kind = (first + more) % (COUNT + 1), .room = KEYS};
+            const struct looking of = {.kind = (enum kind)((first + more) % (COUNT + 1)),
+                                       .room = KEYS};
             const bool is_end = of.kind == END || of.kind == END_DOWN;
             CHECK(look_by(transaction, &of, LEAST, GREATEST) == (is_end ? 1 : 5));
             for (uint64_t key = LEAST; key <= GREATEST; key++) OK(clsm_put(other, key, &word, 1));

@@ -232,7 +232,7 @@ enum { KEYS = 12, MOST_STEPS = 6, PAGE = 4, NO_VALUE = 0 };
 
 /* A step of one that was made: what it read, or wrote, of a key or of all keys of a range. */
 struct step {
-    enum { READ, WRITE, READ_PAGE, READ_END, COUNT } kind;
+    enum kind { READ, WRITE, READ_PAGE, READ_END, COUNT } kind;
     uint64_t key, value; /* NO_VALUE: none */
     uint64_t last, next, count;
     bool falls;
@@ -279,7 +279,7 @@ static void read_range(clsm_transaction *transaction, struct step *step) {
 }
 
 static void make_step(struct worker *self, clsm_transaction *transaction, struct step *step) {
-    step->kind = draw(self, 3) ? (int)draw(self, 2) : READ_PAGE + (int)draw(self, 3);
+    step->kind = (enum kind)(draw(self, 3) ? draw(self, 2) : READ_PAGE + draw(self, 3));
     step->key = draw(self, KEYS);
     step->last = step->key + draw(self, KEYS);
     step->falls = draw(self, 2);
