@@ -503,8 +503,8 @@ void clsm_walk_close(clsm_walk *walk);
  *
  * It is its caller's: used in one call at a time with it, and closed before it. From its first read
  * to its end it is a snapshot, with a seat. It keeps in memory each key that it read or is to
- * write, and each range that it read, with all its rows. Keys may come in any order. A call that is
- * refused has read nothing. */
+ * write, and each range that it read, with all its rows; of a count no row. Keys may come in any
+ * order. A call that is refused has read nothing. */
 
 /* Opens a transaction. Takes 6 KiB of memory.
  *
@@ -520,11 +520,30 @@ int clsm_transaction_get(clsm_transaction *transaction, uint64_t key, clsm_value
 int clsm_transaction_get_many(clsm_transaction *transaction, const uint64_t *keys, size_t count,
                               clsm_value *values);
 
-/* The first rows of the range, as clsm_page, with its own writes among them. It has read the range
- * up to the key of the next row, or all of it if there is none. OK. NO_SEAT, MEMORY, BAD_POINTER:
- * end is as before. */
+/* The first rows of the range, as clsm_page, or the last ones, as clsm_page_down, with its own
+ * writes among them. It has read the range up to the key of the next row, or all of it if there is
+ * none: others' changes there are a conflict, and beyond it they are not. OK. NO_SEAT, MEMORY,
+ * BAD_POINTER: end is as before. */
 int clsm_transaction_page(clsm_transaction *transaction, uint64_t first, uint64_t last,
                           clsm_row *rows, size_t room, clsm_page_end *end);
+int clsm_transaction_page_down(clsm_transaction *transaction, uint64_t last, uint64_t first,
+                               clsm_row *rows, size_t room, clsm_page_end *end);
+
+/* The row of the least key of the range that has a value to it, and that of the greatest one. It
+ * has read the range up to that key, or all of it if there is none: one row less than a page of one
+ * row, which looks for the next one. Passes the keys that it removed itself, too. OK; NOT_FOUND,
+ * NO_SEAT, MEMORY, BAD_POINTER: the row is as before. */
+int clsm_transaction_first(clsm_transaction *transaction, uint64_t first, uint64_t last,
+                           clsm_row *row);
+int clsm_transaction_last(clsm_transaction *transaction, uint64_t first, uint64_t last,
+                          clsm_row *row);
+
+/* How many keys of the range have a value to it. It has read how many have one without its own
+ * writes, and what each key there has that it is to write; other keys may get other values, or come
+ * and go in equal number. Visits each key of the range, now and at its end, and keeps none of them
+ * but its own in memory. OK. NO_SEAT, MEMORY, BAD_POINTER: the number is as before. */
+int clsm_transaction_count(clsm_transaction *transaction, uint64_t first, uint64_t last,
+                           uint64_t *keys);
 
 /* Notes a write of so many words, 1 to 8, at the key, or the removal of the key: of several the
  * last one counts. OK. BAD_VALUE, MEMORY, BAD_POINTER: nothing was noted. */

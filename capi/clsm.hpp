@@ -50,11 +50,31 @@ public:
         return detail::read_many(
             keys, [this](auto... arguments) { return clsm_transaction_get_many(raw(), arguments...); });
     }
+    // The rows of the least and of the greatest key from first to last that have a value: the range
+    // is read up to that key, or all of it.
+    std::optional<row> first(std::uint64_t first = 0, std::uint64_t last = detail::greatest_key) {
+        return detail::find_row([&](clsm_row *row) { return clsm_transaction_first(raw(), first, last, row); });
+    }
+    std::optional<row> last(std::uint64_t first = 0, std::uint64_t last = detail::greatest_key) {
+        return detail::find_row([&](clsm_row *row) { return clsm_transaction_last(raw(), first, last, row); });
+    }
+    // The keys from first to last, both included, that have a value: their number is read, and not
+    // their values.
+    std::uint64_t count(std::uint64_t first = 0, std::uint64_t last = detail::greatest_key) {
+        std::uint64_t keys = 0;
+        detail::thrower()(clsm_transaction_count(raw(), first, last, &keys));
+        return keys;
+    }
     // The first rows from first to last, both included: the range is read up to `next`, or all of
     // it.
     clsm::page page(std::uint64_t first, std::uint64_t last, std::size_t most) {
         const auto call = [this](auto... arguments) { return clsm_transaction_page(raw(), arguments...); };
         return detail::read_page(call, first, last, most, detail::thrower());
+    }
+    // By falling key: the next page begins at `next` downwards.
+    clsm::page page_down(std::uint64_t last, std::uint64_t first, std::size_t most) {
+        const auto call = [this](auto... arguments) { return clsm_transaction_page_down(raw(), arguments...); };
+        return detail::read_page(call, last, first, most, detail::thrower());
     }
     void put(std::uint64_t key, const value &value) {
         detail::thrower()(clsm_transaction_put(raw(), key, value.data(), value.size()));

@@ -345,6 +345,13 @@ struct clsm_span {
     bool falls;
 };
 
+/* What is left of it from this key on. */
+static inline struct clsm_span clsm_span_from(struct clsm_span span, uint64_t next) {
+    if (span.falls) span.last = next;
+    else span.first = next;
+    return span;
+}
+
 /* Reads a page as a call of the caller's: OK, BAD_POINTER. */
 int clsm_page_of(clsm_caller *caller, struct clsm_span span, clsm_row *rows, size_t room,
                  clsm_page_end *end);
@@ -415,8 +422,8 @@ static inline int clsm_end(struct clsm_seat *seat, int code) {
     return code;
 }
 
-/* Hands a value on, if it is wanted. One of several words goes word by word: a wider load would wait
- * for the core's stores, each of which is of a word. */
+/* Hands a value on, if it is wanted. One of several words goes word by word: a wider load would
+ * wait for the core's stores, each of which is of a word. */
 static inline void clsm_hand_on(const clsm_core_value *found, clsm_value *value_or_null) {
     if (!value_or_null) return;
     if (found->length <= 1) {

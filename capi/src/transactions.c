@@ -93,11 +93,20 @@ static int read_keys(clsm_transaction *self, const uint64_t *keys, size_t count)
     return code;
 }
 
+/* The value that the key has in the snapshot: OK, MEMORY, NO_SEAT. */
+static int look_there(clsm_transaction *self, uint64_t key, clsm_value *value) {
+    const bool is_read = clsm_tree_find(&self->reads, key);
+    const int code = is_read ? CLSM_OK : read_keys(self, &key, 1);
+    if (code == CLSM_OK) *value = clsm_tree_find(&self->reads, key)->value;
+    return code;
+}
+
 /* The value that the key has to it: OK, MEMORY, NO_SEAT. */
 static int look_up(clsm_transaction *self, uint64_t key, clsm_value *value) {
-    const int code = known(self, key) ? CLSM_OK : read_keys(self, &key, 1);
-    if (code == CLSM_OK) *value = known(self, key)->value;
-    return code;
+    const clsm_row *own = clsm_tree_find(&self->writes, key);
+    if (!own) return look_there(self, key, value);
+    *value = own->value;
+    return CLSM_OK;
 }
 
 int clsm_transaction_get(clsm_transaction *self, uint64_t key, clsm_value *value_or_null) {
@@ -141,43 +150,76 @@ int clsm_transaction_get_many(clsm_transaction *self, const uint64_t *keys, size
 
 /* ---- Reads of ranges: the rows of its snapshot, with its own writes in their place */
 
-/* Where a page is: among the rows that were read of the snapshot, and among its own writes. */
+/* Where a read of a range is: among the rows of the snapshot, and among its own writes. */
 struct place {
-    clsm_page_end end; /* of the rows that were read */
-    uint64_t at, last;
+    struct clsm_span left; /* of the snapshot, from the rows on that were read last */
+    size_t room;           /* so many are read next */
+    clsm_page_end end;     /* of those that were read last */
+    uint64_t at;           /* the next of these */
     struct clsm_tree_place own;
     uint64_t keys; /* rows of the snapshot that were passed */
 };
 
+/* So many rows, but no more than a part. */
+static size_t in_part(size_t rows) { return rows < PART_ROWS ? rows : PART_ROWS; }
+
+/* The place before all rows of the range, of which so many are wanted. */
+static struct place place_before(const clsm_transaction *self, struct clsm_span span,
+                                 size_t wanted) {
+    const uint64_t from = span.falls ? span.last : span.first;
+    return (struct place){.left = span,
+                          .room = in_part(wanted),
+                          .end = {.next = from, .more = span.first <= span.last},
+                          .own = clsm_tree_from(&self->writes, from, span.falls)};
+}
+
 /* The next row of the snapshot, or null. A library with CLSM_CHECKED may refuse to read it. */
 static const clsm_row *next_there(clsm_transaction *self, struct place *place, int *code) {
     if (place->at == place->end.rows && place->end.more) {
-        *code = clsm_snapshot_page(self->snapshot, place->end.next, place->last, self->part,
-                                   PART_ROWS, &place->end);
+        place->left = clsm_span_from(place->left, place->end.next);
+        *code = clsm_snapshot_page_of(self->snapshot, place->left, self->part, place->room,
+                                      &place->end);
         if (*code != CLSM_OK) return NULL;
         place->at = 0;
+        place->room = in_part(place->room * CLSM_SCAN_GROWS);
     }
     return place->at < place->end.rows ? &self->part[place->at] : NULL;
 }
 
 /* The next row of its own, which may remove its key, or null. */
 static const clsm_row *next_own(const struct place *place) {
+    const struct clsm_span *left = &place->left;
     const clsm_row *row = clsm_tree_next(&place->own);
-    return row && row->key <= place->last ? row : NULL;
+    if (!row) return NULL;
+    return (left->falls ? row->key >= left->first : row->key <= left->last) ? row : NULL;
+}
+
+/* Whether a row is there, and the other one is not before it. */
+static bool is_next(const clsm_row *row, const clsm_row *other, bool falls) {
+    if (!row || !other) return row;
+    return falls ? row->key >= other->key : row->key <= other->key;
 }
 
 /* Passes the next row of both, and answers it: its own one, where both have the key. What it passes
  * of the snapshot it has read. Null at the end, and where that is refused. */
 static const clsm_row *pass(clsm_transaction *self, struct place *place, int *code) {
     const clsm_row *own = next_own(place), *there = next_there(self, place, code);
-    const bool is_own = own && (!there || own->key <= there->key);
-    const bool is_there = there && (!own || there->key <= own->key);
+    const bool is_own = is_next(own, there, place->left.falls);
+    const bool is_there = is_next(there, own, place->left.falls);
     if (is_there) *code = clsm_tree_set(&self->reads, there->key, &there->value);
     if (*code != CLSM_OK) return NULL;
     if (is_own) clsm_tree_pass(&place->own);
     place->at += is_there;
     place->keys += is_there;
     return is_own ? own : there;
+}
+
+/* Passes rows up to the next one that has a value to it. */
+static const clsm_row *next_row(clsm_transaction *self, struct place *place, int *code) {
+    const clsm_row *row = NULL;
+    do row = pass(self, place, code);
+    while (row && row->value.length == 0);
+    return row;
 }
 
 /* Has room for one more range, if there is memory. */
@@ -192,32 +234,95 @@ static bool has_room(clsm_transaction *self) {
     return true;
 }
 
-/* Notes that it has read a range: OK, MEMORY. */
-static int note_range(clsm_transaction *self, uint64_t first, uint64_t last, uint64_t keys) {
+/* Notes that it has read a range, and so many keys of the snapshot in it: up to the row that it
+ * passed last, or all of it if that is null. OK, MEMORY. */
+static int note_range(clsm_transaction *self, struct clsm_span span, const clsm_row *last,
+                      uint64_t keys) {
+    if (span.first > span.last) return CLSM_OK;
     if (!has_room(self)) return CLSM_MEMORY;
-    self->ranges[self->ranges_count++] = (clsm_range_count){first, last, keys};
+    if (last && span.falls) span.first = last->key;
+    if (last && !span.falls) span.last = last->key;
+    self->ranges[self->ranges_count++] = (clsm_range_count){span.first, span.last, keys};
     return CLSM_OK;
 }
 
-int clsm_transaction_page(clsm_transaction *self, uint64_t first, uint64_t last, clsm_row *rows,
-                          size_t room, clsm_page_end *end) {
+static int page_of(clsm_transaction *self, struct clsm_span span, clsm_row *rows, size_t room,
+                   clsm_page_end *end) {
     if (!self || !end || (!rows && room > 0)) return CLSM_BAD_POINTER;
-    struct place place = {.end = {.next = first, .more = first <= last}, .last = last};
+    struct place place = place_before(self, span, in_part(room) + 1);
     clsm_page_end page = {.rows = 0};
     const clsm_row *row = NULL;
     const struct mark before = mark_of(self);
     int code = begin_reading(self);
-    place.own = clsm_tree_from(&self->writes, first);
-    while (code == CLSM_OK && (row = pass(self, &place, &code))) {
-        if (row->value.length == 0) continue;
+    while (code == CLSM_OK && (row = next_row(self, &place, &code))) {
         page.more = page.rows == room;
         page.next = page.more ? row->key : 0;
         if (page.more) break;
         rows[page.rows++] = *row;
     }
-    if (code == CLSM_OK && first <= last)
-        code = note_range(self, first, page.more ? page.next : last, place.keys);
+    if (code == CLSM_OK) code = note_range(self, span, row, place.keys);
     if (code == CLSM_OK) *end = page;
+    return end_call(self, before, code);
+}
+
+int clsm_transaction_page(clsm_transaction *self, uint64_t first, uint64_t last, clsm_row *rows,
+                          size_t room, clsm_page_end *end) {
+    return page_of(self, (struct clsm_span){first, last, false}, rows, room, end);
+}
+
+int clsm_transaction_page_down(clsm_transaction *self, uint64_t last, uint64_t first,
+                               clsm_row *rows, size_t room, clsm_page_end *end) {
+    return page_of(self, (struct clsm_span){first, last, true}, rows, room, end);
+}
+
+/* Looks no further than the row that it finds. */
+static int end_of(clsm_transaction *self, struct clsm_span span, clsm_row *row) {
+    if (!self || !row) return CLSM_BAD_POINTER;
+    struct place place = place_before(self, span, 1);
+    const struct mark before = mark_of(self);
+    int code = begin_reading(self);
+    const clsm_row *found = code == CLSM_OK ? next_row(self, &place, &code) : NULL;
+    if (code == CLSM_OK) code = note_range(self, span, found, place.keys);
+    if (code == CLSM_OK && !found) code = CLSM_NOT_FOUND;
+    if (code == CLSM_OK) *row = *found;
+    return end_call(self, before, code);
+}
+
+int clsm_transaction_first(clsm_transaction *self, uint64_t first, uint64_t last, clsm_row *row) {
+    return end_of(self, (struct clsm_span){first, last, false}, row);
+}
+
+int clsm_transaction_last(clsm_transaction *self, uint64_t first, uint64_t last, clsm_row *row) {
+    return end_of(self, (struct clsm_span){first, last, true}, row);
+}
+
+/* Counts its own writes of a range in place of what their keys have in the snapshot, which it
+ * reads: OK, MEMORY. */
+static int count_own(clsm_transaction *self, uint64_t first, uint64_t last, uint64_t *keys) {
+    struct clsm_tree_place place = clsm_tree_from(&self->writes, first, false);
+    const clsm_row *own = NULL;
+    clsm_value there;
+    while ((own = clsm_tree_next(&place)) && own->key <= last) {
+        const int code = look_there(self, own->key, &there);
+        if (code != CLSM_OK) return code;
+        *keys += own->value.length > 0;
+        *keys -= there.length > 0;
+        clsm_tree_pass(&place);
+    }
+    return CLSM_OK;
+}
+
+int clsm_transaction_count(clsm_transaction *self, uint64_t first, uint64_t last, uint64_t *keys) {
+    if (!self || !keys) return CLSM_BAD_POINTER;
+    const struct clsm_span all = {first, last, false};
+    const struct mark before = mark_of(self);
+    uint64_t there = 0;
+    int code = begin_reading(self);
+    if (code == CLSM_OK) code = clsm_snapshot_count(self->snapshot, first, last, &there);
+    uint64_t count = there;
+    if (code == CLSM_OK) code = count_own(self, first, last, &count);
+    if (code == CLSM_OK) code = note_range(self, all, NULL, there);
+    if (code == CLSM_OK) *keys = count;
     return end_call(self, before, code);
 }
 

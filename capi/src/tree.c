@@ -9,7 +9,8 @@
  *
  * So a node of level n has below it, with itself, 2^n - 1 nodes at least, since both children have
  * level n - 1 or more; and a way down meets two nodes of each level at most, the second one to the
- * right of the first. So it meets 64 nodes at most of 2^32 - 1.
+ * right of the first. So it meets 64 nodes at most of 2^32 - 1. In a tree of keys that came in
+ * their order, the way along the right edge does so.
  *
  * A new node has level 1, and hangs where its key is looked for in vain. That may break rule 2 or
  * rule 4 above it, where a child's level is too high. From there up, skew restores the former and
@@ -25,7 +26,7 @@
 
 #include <stdlib.h>
 
-enum { BOTTOM = 0, MOST_NODES_DOWN = 2 * CLSM_TREE_LEVELS };
+enum { BOTTOM = 0 };
 
 /* ---- New nodes */
 
@@ -50,7 +51,7 @@ static uint32_t split(struct clsm_node *nodes, uint32_t top) {
 
 /* Hangs the node of a row into the tree, which has not its key. */
 static void hang(struct clsm_tree *tree, uint32_t added) {
-    uint32_t *links[MOST_NODES_DOWN], *link = &tree->root;
+    uint32_t *links[CLSM_TREE_DEPTH], *link = &tree->root;
     struct clsm_node *nodes = tree->nodes;
     const uint64_t key = tree->rows[added - 1].key;
     size_t depth = 0;
@@ -124,13 +125,14 @@ void clsm_tree_free(struct clsm_tree *tree) {
 
 /* ---- In order */
 
-struct clsm_tree_place clsm_tree_from(const struct clsm_tree *tree, uint64_t key) {
-    struct clsm_tree_place place = {.tree = tree};
+struct clsm_tree_place clsm_tree_from(const struct clsm_tree *tree, uint64_t key, bool falls) {
+    struct clsm_tree_place place = {.tree = tree, .falls = falls};
     uint32_t at = tree->root;
     while (at != BOTTOM) {
         const struct clsm_node *node = &tree->nodes[at];
-        if (node->key >= key) place.coming[place.count++] = at;
-        at = node->key >= key ? node->left : node->right;
+        const bool is_coming = falls ? node->key <= key : node->key >= key;
+        if (is_coming) place.coming[place.count++] = at;
+        at = is_coming == falls ? node->right : node->left;
     }
     return place;
 }
@@ -140,9 +142,14 @@ const clsm_row *clsm_tree_next(const struct clsm_tree_place *place) {
     return &place->tree->rows[place->coming[place->count - 1] - 1];
 }
 
-/* Behind a node come those of its right subtree, of which the leftmost is the next one. */
+/* Behind a node come those of its right subtree, of which the leftmost is the next one; if keys
+ * fall, those of its left subtree, of which the rightmost is. */
 void clsm_tree_pass(struct clsm_tree_place *place) {
     const struct clsm_node *nodes = place->tree->nodes;
-    uint32_t at = nodes[place->coming[--place->count]].right;
-    for (; at != BOTTOM; at = nodes[at].left) place->coming[place->count++] = at;
+    const uint32_t passed = place->coming[--place->count];
+    uint32_t at = place->falls ? nodes[passed].left : nodes[passed].right;
+    while (at != BOTTOM) {
+        place->coming[place->count++] = at;
+        at = place->falls ? nodes[at].right : nodes[at].left;
+    }
 }

@@ -5,8 +5,8 @@
 
 #include "../clsm.h"
 
-/* Of 2^32 - 1 rows the topmost node has this level at most. */
-enum { CLSM_TREE_LEVELS = 32 };
+/* Of 2^32 - 1 rows the topmost node has this level at most, and a way down so many nodes. */
+enum { CLSM_TREE_LEVELS = 32, CLSM_TREE_DEPTH = 2 * CLSM_TREE_LEVELS };
 
 /* Children are numbers of nodes; 0 is the bottom, which stands where there is none. */
 struct clsm_node {
@@ -35,16 +35,18 @@ void clsm_tree_cut(struct clsm_tree *tree, size_t count);
 /* Frees the room. */
 void clsm_tree_free(struct clsm_tree *tree);
 
-/* A place among the keys, as long as no new one comes: the nodes that are still to come and have
- * the place in their left subtrees, and the next one, which is the last of them. */
+/* A place among the keys, by rising or by falling key, as long as no new one comes: the nodes that
+ * are still to come and have the place in their left subtrees, or in their right ones if keys fall,
+ * and the next one, which is the last of them. */
 struct clsm_tree_place {
     const struct clsm_tree *tree;
-    uint32_t coming[CLSM_TREE_LEVELS];
+    bool falls;
+    uint32_t coming[CLSM_TREE_DEPTH];
     size_t count;
 };
 
-/* The place before the first key that is not below this one. */
-struct clsm_tree_place clsm_tree_from(const struct clsm_tree *tree, uint64_t key);
+/* The place before the first key that is not below this one, or, if keys fall, not above it. */
+struct clsm_tree_place clsm_tree_from(const struct clsm_tree *tree, uint64_t key, bool falls);
 /* The row of the next key, or null. */
 const clsm_row *clsm_tree_next(const struct clsm_tree_place *place);
 /* Goes on behind that key, which there is. */

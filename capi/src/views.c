@@ -68,8 +68,7 @@ static void read_parts(struct clsm_seat *seat, struct clsm_span span, clsm_row *
         const size_t part = left < CLSM_PART_ROWS ? left : CLSM_PART_ROWS;
         read_part(seat, &span, rows + count, part, answer);
         count += answer->rows;
-        if (span.falls) span.last = answer->next;
-        else span.first = answer->next;
+        span = clsm_span_from(span, answer->next);
     } while (answer->more && count < room);
     answer->rows = count;
 }

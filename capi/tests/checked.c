@@ -37,13 +37,33 @@ static void read_again(void *with) {
     clsm_transaction *transaction = with;
     const uint64_t key = 3;
     clsm_value value;
-    clsm_row rows[2];
+    clsm_row rows[2] = {{.key = 7}};
     clsm_page_end end = {.rows = 7};
+    uint64_t keys = 7;
     ANSWERS(CLSM_IN_USE, clsm_transaction_get(transaction, key, &value));
     ANSWERS(CLSM_IN_USE, clsm_transaction_get_many(transaction, &key, 1, &value));
     ANSWERS(CLSM_IN_USE, clsm_transaction_add(transaction, key, 1, NULL));
     ANSWERS(CLSM_IN_USE, clsm_transaction_page(transaction, 0, 9, rows, 2, &end));
-    CHECK(end.rows == 7);
+    ANSWERS(CLSM_IN_USE, clsm_transaction_page_down(transaction, 9, 0, rows, 2, &end));
+    ANSWERS(CLSM_IN_USE, clsm_transaction_first(transaction, 0, 9, rows));
+    ANSWERS(CLSM_IN_USE, clsm_transaction_last(transaction, 0, 9, rows));
+    ANSWERS(CLSM_IN_USE, clsm_transaction_count(transaction, 0, 9, &keys));
+    CHECK(end.rows == 7 && rows[0].key == 7 && keys == 7);
+}
+
+/* Its first read opens a snapshot of its caller, which is closed. */
+static void read_by_closed(clsm_transaction *transaction) {
+    clsm_row row = {.key = 7};
+    clsm_page_end end = {.rows = 7};
+    uint64_t keys = 7;
+    ANSWERS(CLSM_CLOSED, clsm_transaction_get(transaction, 1, NULL));
+    ANSWERS(CLSM_CLOSED, clsm_transaction_page(transaction, 0, 9, &row, 1, &end));
+    ANSWERS(CLSM_CLOSED, clsm_transaction_page_down(transaction, 9, 0, &row, 1, &end));
+    ANSWERS(CLSM_CLOSED, clsm_transaction_first(transaction, 0, 9, &row));
+    ANSWERS(CLSM_CLOSED, clsm_transaction_last(transaction, 0, 9, &row));
+    ANSWERS(CLSM_CLOSED, clsm_transaction_count(transaction, 0, 9, &keys));
+    CHECK(end.rows == 7 && row.key == 7 && keys == 7);
+    clsm_transaction_close(transaction);
 }
 
 static void transact(void) {
@@ -60,6 +80,7 @@ int main(void) {
     clsm_store *store;
     clsm_snapshot *snapshot;
     clsm_scan *scan;
+    clsm_transaction *transaction;
     clsm_row row;
     int calls = 0;
     OK(clsm_open(NULL, &store));
@@ -84,7 +105,9 @@ int main(void) {
     clsm_snapshot_close(snapshot);
     OK(clsm_clear(caller, NULL));
     ANSWERS(CLSM_NOT_FOUND, clsm_get(caller, 1, NULL));
+    OK(clsm_transaction_open(caller, &transaction));
     clsm_caller_close(caller);
+    read_by_closed(transaction);
     ANSWERS(CLSM_CLOSED, clsm_get(caller, 1, NULL));
     ANSWERS(CLSM_CLOSED, clsm_put(caller, 1, &WORD, 1));
     ANSWERS(CLSM_CLOSED, clsm_clear(caller, NULL));

@@ -278,6 +278,35 @@ void transactions(const clsm::store &store) {
     for (std::uint64_t key = 40; key < 44; key++) caller.remove(key);
 }
 
+// Both ends of a range, rows by falling key, and a count, each with its own writes; and what of them
+// is a conflict.
+void transactions_downwards(clsm::caller &caller, clsm::caller &other) {
+    enum { ROWS = 700 };
+    for (std::uint64_t key = 0; key < ROWS; key++) caller.put(5000 + key, key);
+    other.follow(caller.seen());
+    caller.transact([](clsm::transaction &t) {
+        CHECK(t.first(5000) == (clsm::row{5000, 0}) && t.last() == (clsm::row{5699, 699}));
+        t.remove(5000);
+        t.remove(5699);
+        t.put(5800, 8);
+        CHECK(t.first(5000, 6000) == (clsm::row{5001, 1}) && t.last(5000, 5799) == (clsm::row{5698, 698}));
+        CHECK(!t.first(5801) && !t.last(5, 4) && t.last() == (clsm::row{5800, 8}));
+        CHECK(t.count(5000) == ROWS - 1 && t.count(5000, 5001) == 1 && t.count() >= ROWS - 1 && t.count(5, 4) == 0);
+        clsm::page page = t.page_down(UINT64_MAX, 5000, 600);
+        CHECK(page.rows.size() == 600 && page.rows[0] == (clsm::row{5800, 8}) && page.next == 5099);
+        page = t.page_down(*page.next, 5000, SIZE_MAX);
+        CHECK(page.rows.size() == 99 && page.rows[98] == (clsm::row{5001, 1}) && !page.next);
+    });
+    int runs = 0;
+    caller.transact([&](clsm::transaction &t) {
+        t.put(5900, t.count(5000, 5799) + t.last(5000, 5799)->key + t.page_down(5099, 5090, 1).rows[0].key);
+        if (++runs < 3) other.remove(runs == 1 ? 5098 : 5697);
+        else other.put(5001, 77);
+    });
+    CHECK(runs == 3 && caller.get(5900) == value(ROWS - 4 + 5698 + 5099));
+    caller.remove_range(5000, 5900);
+}
+
 void transacting_threads() {
     const clsm::store store(clsm::options().with_epoch(64));
     store.caller().put(2, 100);
@@ -487,6 +516,8 @@ int main() {
         many(caller);
         downwards(caller);
         transactions(store);
+        clsm::caller other = store.caller();
+        transactions_downwards(caller, other);
         ranges(caller);
     }
     lives();

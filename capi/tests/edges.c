@@ -172,16 +172,21 @@ static void write_if(clsm_caller *caller, struct map *map) {
 struct played {
     clsm_transaction *transaction;
     struct map theirs; /* the store */
+    struct map then;   /* the same at the first read */
     struct map mine;   /* what the transaction is to read, from its first read on */
     bool has_read, has_written;
     bool is_read[KEYS], is_written[KEYS];
+    clsm_range_count counts[STEPS]; /* that it read, of the store */
+    size_t counts_made;
 };
 
 /* It is to read the store as it is now, if this is its first read. */
 static void begin_reading(struct played *self) {
-    for (uint64_t i = 0; i < KEYS && !self->has_read; i++)
-        if (!self->is_written[i]) self->mine.words[i] = self->theirs.words[i];
+    if (self->has_read) return;
     self->has_read = true;
+    self->then = self->theirs;
+    for (uint64_t i = 0; i < KEYS; i++)
+        if (!self->is_written[i]) self->mine.words[i] = self->theirs.words[i];
 }
 
 /* The place of a key that is read: one that it wrote is no read. */
@@ -225,40 +230,74 @@ static void add(struct played *self) {
     if (sum >= by) note_write(self, place, sum);
 }
 
-/* It reads the keys of the page, and those before the next one. */
-static void page(struct played *self) {
-    clsm_range_count range = draw_range();
-    const size_t room = draw(ROWS);
-    clsm_row rows[ROWS];
-    clsm_page_end end;
-    begin_reading(self);
-    OK(clsm_transaction_page(self->transaction, range.first, range.last, rows, room, &end));
-    check_page(&self->mine, &range, false, rows, &end, room);
-    if (end.more) range.last = end.next;
+/* It has read all of the range, or, if there is one, up to this key. */
+static void note_range(struct played *self, clsm_range_count range, bool falls,
+                       const uint64_t *key_or_null) {
+    if (key_or_null && falls) range.first = *key_or_null;
+    if (key_or_null && !falls) range.last = *key_or_null;
     for (uint64_t i = 0; i < KEYS; i++)
         if (is_within(i, &range)) self->is_read[i] = true;
 }
 
-/* Whether the store has not what it read any more. Its first read was of `then`. */
-static bool is_conflict(const struct played *self, const struct map *then) {
+/* It reads the keys of the page, and those before the next one. */
+static void page(struct played *self) {
+    const clsm_range_count range = draw_range();
+    const size_t room = draw(ROWS);
+    const bool falls = draw(2);
+    clsm_row rows[ROWS];
+    clsm_page_end end;
+    begin_reading(self);
+    OK(falls ? clsm_transaction_page_down(self->transaction, range.last, range.first, rows, room,
+                                          &end)
+             : clsm_transaction_page(self->transaction, range.first, range.last, rows, room, &end));
+    check_page(&self->mine, &range, falls, rows, &end, room);
+    note_range(self, range, falls, end.more ? &end.next : NULL);
+}
+
+static void look_at_end(struct played *self) {
+    const clsm_range_count range = draw_range();
+    const bool falls = draw(2);
+    clsm_row row = {.key = OTHER};
+    begin_reading(self);
+    int code = falls ? clsm_transaction_last(self->transaction, range.first, range.last, &row)
+                     : clsm_transaction_first(self->transaction, range.first, range.last, &row);
+    check_end(&self->mine, &range, falls, code, &row);
+    note_range(self, range, falls, code == CLSM_OK ? &row.key : NULL);
+}
+
+/* It reads how many keys the store has there, and those that it has written. */
+static void count(struct played *self) {
+    clsm_range_count range = draw_range();
+    begin_reading(self);
+    OK(clsm_transaction_count(self->transaction, range.first, range.last, &range.keys));
+    CHECK(range.keys == count_within(&self->mine, &range));
+    range.keys = count_within(&self->then, &range);
+    self->counts[self->counts_made++] = range;
+    for (uint64_t i = 0; i < KEYS; i++)
+        if (self->is_written[i] && is_within(i, &range)) self->is_read[i] = true;
+}
+
+/* Whether the store has not what it read any more. */
+static bool is_conflict(const struct played *self) {
     for (uint64_t i = 0; i < KEYS && self->has_written; i++)
-        if (self->is_read[i] && then->words[i] != self->theirs.words[i]) return true;
+        if (self->is_read[i] && self->then.words[i] != self->theirs.words[i]) return true;
+    for (size_t i = 0; i < self->counts_made && self->has_written; i++)
+        if (count_within(&self->theirs, &self->counts[i]) != self->counts[i].keys) return true;
     return false;
 }
 
 static void transact(clsm_caller *caller, clsm_caller *other, struct map *map) {
-    static void (*const steps[])(struct played *) = {get, write, add, page};
+    static void (*const steps[])(struct played *) = {get, write, add, page, look_at_end, count};
+    enum { KINDS = sizeof steps / sizeof *steps };
     struct played self = {.theirs = *map, .mine = *map};
-    struct map then = *map;
     OK(clsm_transaction_open(caller, &self.transaction));
     for (uint64_t left = 1 + draw(STEPS); left > 0; left--) {
         if (draw(8) == 0) write_one(other, &self.theirs);
         OK(clsm_follow(caller, clsm_seen(other)));
-        if (!self.has_read) then = self.theirs;
-        steps[draw(4)](&self);
+        steps[draw(KINDS)](&self);
     }
     int code = clsm_transaction_commit(self.transaction);
-    const bool is_lost = is_conflict(&self, &then);
+    const bool is_lost = is_conflict(&self);
     ANSWERS(is_lost ? CLSM_CONFLICT : CLSM_OK, code);
     for (uint64_t i = 0; i < KEYS; i++)
         map->words[i] = self.is_written[i] && !is_lost ? self.mine.words[i] : self.theirs.words[i];

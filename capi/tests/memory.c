@@ -195,8 +195,46 @@ static int read_range(clsm_transaction *transaction) {
     return clsm_transaction_page(transaction, 0, NOTED - 1, rows, NOTED, &end);
 }
 
+static int read_down(clsm_transaction *transaction) {
+    static clsm_row rows[NOTED];
+    clsm_page_end end;
+    return clsm_transaction_page_down(transaction, NOTED - 1, 0, rows, NOTED, &end);
+}
+
+enum { OWN = 12 }; /* so many keys it is to write */
+
+/* It passes the keys that it removed itself. */
+static int read_first(clsm_transaction *transaction) {
+    clsm_row row = {.key = NOTED};
+    for (uint64_t i = 0; i < OWN; i++) AGAIN(CLSM_OK, clsm_transaction_remove(transaction, i));
+    const int code = clsm_transaction_first(transaction, 0, NOTED - 1, &row);
+    CHECK(row.key == (code == CLSM_OK ? OWN : NOTED));
+    return code;
+}
+
+static int read_last(clsm_transaction *transaction) {
+    clsm_row row = {.key = NOTED};
+    for (uint64_t i = 0; i < OWN; i++)
+        AGAIN(CLSM_OK, clsm_transaction_remove(transaction, NOTED - 1 - i));
+    const int code = clsm_transaction_last(transaction, 0, NOTED - 1, &row);
+    CHECK(row.key == (code == CLSM_OK ? NOTED - 1 - OWN : NOTED));
+    return code;
+}
+
+/* It reads its own keys, and does without memory for those of others. */
+static int count_range(clsm_transaction *transaction) {
+    uint64_t keys = 2 * NOTED;
+    for (uint64_t i = 0; i < OWN; i++) AGAIN(CLSM_OK, clsm_transaction_remove(transaction, 5 * i));
+    const long before = atomic_load(&requests), refused = atomic_load(&refused_one);
+    const int code = clsm_transaction_count(transaction, 0, NOTED - 1, &keys);
+    CHECK(keys == (code == CLSM_OK ? NOTED - OWN : 2 * NOTED));
+    if (code == CLSM_OK && before < refused && refused <= atomic_load(&requests)) memories++;
+    return code;
+}
+
 static void read_or_not(clsm_store *store, clsm_caller *caller) {
-    static int (*const calls[])(clsm_transaction *) = {read_one, add_to_one, read_some, read_range};
+    static int (*const calls[])(clsm_transaction *) = {
+        read_one, add_to_one, read_some, read_range, read_down, read_first, read_last, count_range};
     for (size_t i = 0; i < sizeof calls / sizeof *calls; i++) {
         clsm_transaction *transaction = NULL;
         AGAIN(CLSM_OK, clsm_transaction_open(caller, &transaction));

@@ -78,6 +78,9 @@ static void transact(void) {
     OK(clsm_transaction_open(caller, &transaction));
     OK(clsm_transaction_get_many(transaction, many, MANY, values));
     OK(clsm_transaction_page(transaction, 0, UINT64_MAX, rows, 64, &end));
+    OK(clsm_transaction_page_down(transaction, UINT64_MAX, 0, rows, 64, &end));
+    OK(clsm_transaction_last(transaction, 0, UINT64_MAX, rows));
+    OK(clsm_transaction_count(transaction, 0, UINT64_MAX, &keys));
     for (uint64_t key = 0; key < 16; key++) OK(clsm_transaction_put(transaction, key, WORDS, 8));
     OK(clsm_transaction_commit(transaction));
     clsm_transaction_close(transaction);

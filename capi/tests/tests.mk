@@ -15,7 +15,7 @@ $(T): $(OUT)/settings
 
 # ---- Programs: over the library; `mocked`, `mocked_many`, `checked` and `schedules` over the parts and the mock core.
 
-$(T)/threads $(T)/refusals $(T)/changes $(T)/batch $(T)/many $(T)/transactions $(T)/copying $(T)/edges $(T)/full $(T)/loops $(T)/lives $(T)/audited: $(T)/%: tests/%.c $(SHARED_HEADERS) $(T)/between.o $(OUT)/libclsm.a
+$(T)/threads $(T)/refusals $(T)/changes $(T)/batch $(T)/many $(T)/transactions $(T)/ranges $(T)/copying $(T)/edges $(T)/full $(T)/loops $(T)/lives $(T)/audited: $(T)/%: tests/%.c $(SHARED_HEADERS) $(T)/between.o $(OUT)/libclsm.a
 	$(STRICT) -o $@ $< $(T)/between.o $(OUT)/libclsm.a $(BETWEEN)
 
 $(T)/memory: $(T)/%: tests/%.c $(SHARED_HEADERS) $(OUT)/libclsm.a | $(T)
@@ -144,11 +144,11 @@ ROUNDS = $(if $(SANITIZE),2000,20000)
 EXAMPLES = $(patsubst examples/%.c,example-%,$(wildcard examples/*.c)) $(patsubst examples/%.cpp,example-cxx-%,$(wildcard examples/*.cpp))
 # ThreadSanitizer has nothing to find where one thread runs.
 ALONE = $(if $(filter thread,$(SANITIZE)),,schedules)
-PROGRAMS = threads codecs refusals memory lives stack changes batch many tree transactions copying edges full loops cxx cxx17 core mocked mocked_many checked $(ALONE) \
+PROGRAMS = threads codecs refusals memory lives stack changes batch many tree transactions ranges copying edges full loops cxx cxx17 core mocked mocked_many checked $(ALONE) \
     $(EXAMPLES) \
     $(if $(SANITIZE),,shared) $(if $(filter address,$(SANITIZE)),closed) $(if $(AUDIT),audited)
 BUILT = $(PROGRAMS:%=$(T)/%)
-PLAIN = refusals memory lives stack changes batch many tree transactions copying edges full loops cxx cxx17 core mocked mocked_many checked $(if $(filter address,$(SANITIZE)),closed)
+PLAIN = refusals memory lives stack changes batch many tree transactions ranges copying edges full loops cxx cxx17 core mocked mocked_many checked $(if $(filter address,$(SANITIZE)),closed)
 AGAIN = $(MAKE) OUT=$(OUT) CORE=$(CORE)
 # What is not for sanitizers; what the documents show is not in an archive that was packed.
 PLANTING = "tests/planted $(OUT)/planted"

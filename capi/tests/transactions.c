@@ -1,6 +1,6 @@
 /* Transactions: what one reads of its own and of others, what ends it; that keys may come in any
  * order; and that those of several threads have the effect that they have one after another, in the
- * order of their times. */
+ * order of their times. Ranges have a test of their own, ranges.c. */
 #include "check.h"
 
 #include <pthread.h>
@@ -186,108 +186,40 @@ static void find_room(int merge) {
     OK(clsm_close(store));
 }
 
-/* ---- Ranges */
-
-enum { FIRST = 1000, ROWS = 300, LAST = FIRST + 2 * ROWS };
-
-/* What the transaction is to read from each key on: a value for each key, or 0. */
-static uint64_t wanted[2 * ROWS + 1];
-
-static void check_page(clsm_transaction *transaction, uint64_t first, uint64_t last, size_t room) {
-    static clsm_row rows[2 * ROWS + 1];
-    clsm_page_end end;
-    uint64_t count = 0, key = first;
-    OK(clsm_transaction_page(transaction, first, last, rows, room, &end));
-    for (; key <= last && count < end.rows; key++) {
-        if (wanted[key - FIRST] == 0) continue;
-        CHECK(rows[count].key == key && rows[count].value.words[0] == wanted[key - FIRST]);
-        count++;
-    }
-    while (key <= last && wanted[key - FIRST] == 0) key++;
-    CHECK(count == end.rows && end.more == (key <= last) && (!end.more || count == room));
-    CHECK(end.next == (end.more ? key : 0));
-}
-
-static void read_ranges(clsm_caller *caller) {
-    clsm_transaction *transaction = begun(caller);
-    uint64_t state = 7;
-    for (uint64_t i = 0; i < ROWS; i++) {
-        wanted[2 * i] = i + 1;
-        put(caller, FIRST + 2 * i, i + 1);
-    }
-    for (int i = 0; i < 200; i++) {
-        state = state * 6364136223846793005 + 1442695040888963407;
-        const uint64_t place = (state >> 33) % (2 * ROWS), to = place + (state >> 50) % 200;
-        wanted[place] = i % 3 ? (uint64_t)i : 0;
-        if (i % 3) write_to(transaction, FIRST + place, (uint64_t)i);
-        else OK(clsm_transaction_remove(transaction, FIRST + place));
-        check_page(transaction, FIRST + place, to < 2 * ROWS ? FIRST + to : LAST,
-                   (state >> 40) % 70);
-        check_page(transaction, FIRST, LAST, 2 * ROWS + 1);
-    }
-    check_page(transaction, FIRST + 5, FIRST + 4, 3);
-    check_page(transaction, FIRST, LAST, 0);
-    clsm_transaction_close(transaction);
-    for (uint64_t i = 0; i < ROWS; i++) OK(clsm_remove(caller, FIRST + 2 * i));
-}
-
-/* A page reads what it has, up to the key of the next one: what changes there is a conflict. */
-static void conflict_in_ranges(clsm_caller *caller, clsm_caller *other) {
-    static const struct {
-        uint64_t key;
-        bool is_put, is_conflict;
-    } changes[] = {{2004, true, true},  {2002, false, true},  {2003, true, true},
-                   {2001, true, true},  {2000, false, false}, {2009, true, true},
-                   {2010, true, true},  {2010, false, true},  {2011, true, false},
-                   {2012, true, false}, {1999, true, false},  {2002, true, true},
-                   {2006, true, true}};
-    clsm_transaction *transaction = begun(caller);
-    for (size_t i = 0; i < sizeof changes / sizeof *changes; i++) {
-        clsm_row rows[3];
-        clsm_page_end end;
-        for (uint64_t key = 1990; key < 2020; key++) OK(clsm_remove(other, key));
-        for (uint64_t key = 2002; key < 2020; key += 4) put(other, key, 1);
-        OK(clsm_follow(caller, clsm_seen(other)));
-        OK(clsm_transaction_page(transaction, 2000, 2015, rows, 2, &end));
-        CHECK(end.rows == 2 && end.more && end.next == 2010);
-        write_to(transaction, 3000, i);
-        if (changes[i].is_put) put(other, changes[i].key, 2);
-        else OK(clsm_remove(other, changes[i].key));
-        ANSWERS(changes[i].is_conflict ? CLSM_CONFLICT : CLSM_OK,
-                clsm_transaction_commit(transaction));
-    }
-    clsm_transaction_close(transaction);
-}
-
 /* ---- Many keys, in whichever order they come */
 
 static uint64_t falling(uint64_t i) { return UINT64_MAX - i; }
 static uint64_t scattered(uint64_t i) { return (i + 1) * 0x9e3779b97f4a7c15; }
 
-/* All that it is to write, page by page. */
-static uint64_t count_rows(clsm_transaction *transaction, uint64_t first) {
+/* All that it is to write, page by page, one way or the other. */
+static uint64_t count_rows(clsm_transaction *transaction, uint64_t first, bool falls) {
     enum { ROOM = 100 };
     clsm_row rows[ROOM];
-    clsm_page_end end = {.next = first, .more = true};
+    clsm_page_end end = {.next = falls ? UINT64_MAX : first, .more = true};
     uint64_t count = 0, before = 0;
     while (end.more) {
-        OK(clsm_transaction_page(transaction, end.next, UINT64_MAX, rows, ROOM, &end));
+        OK(falls ? clsm_transaction_page_down(transaction, end.next, first, rows, ROOM, &end)
+                 : clsm_transaction_page(transaction, end.next, UINT64_MAX, rows, ROOM, &end));
         for (uint64_t i = 0; i < end.rows; before = rows[i++].key)
-            CHECK(count + i == 0 || before < rows[i].key);
+            CHECK(count + i == 0 || (falls ? before > rows[i].key : before < rows[i].key));
         count += end.rows;
     }
     return count;
 }
 
 static void note_many(clsm_caller *caller, uint64_t (*key)(uint64_t)) {
-    const uint64_t many = 100 * rounds, above = LAST;
+    const uint64_t many = 100 * rounds, above = 10000;
+    uint64_t count;
     clsm_transaction *transaction = begun(caller);
     for (uint64_t i = 0; i < many; i++) CHECK(read_by(transaction, key(i)) == 0);
     write_to(transaction, key(0), 1);
     OK(clsm_transaction_commit(transaction));
     for (uint64_t i = 0; i < many; i++) write_to(transaction, key(i), i + 1);
     for (uint64_t i = 0; i < many; i++) CHECK(read_by(transaction, key(i)) == i + 1);
-    CHECK(count_rows(transaction, above) == many);
+    CHECK(count_rows(transaction, above, false) == many);
+    CHECK(count_rows(transaction, above, true) == many);
+    OK(clsm_transaction_count(transaction, above, UINT64_MAX, &count));
+    CHECK(count == many);
     ANSWERS(CLSM_BAD_BATCH, clsm_transaction_commit(transaction));
     OK(clsm_transaction_remove(transaction, key(0)));
     OK(clsm_transaction_commit(transaction));
@@ -300,9 +232,10 @@ enum { KEYS = 12, MOST_STEPS = 6, PAGE = 4, NO_VALUE = 0 };
 
 /* A step of one that was made: what it read, or wrote, of a key or of all keys of a range. */
 struct step {
-    enum { READ, READ_RANGE, WRITE } kind;
+    enum kind { READ, WRITE, READ_PAGE, READ_END, COUNT } kind;
     uint64_t key, value; /* NO_VALUE: none */
     uint64_t last, next, count;
+    bool falls;
     clsm_row rows[PAGE];
 };
 
@@ -325,21 +258,38 @@ static uint64_t draw(struct worker *self, uint64_t below) {
     return (self->state >> 33) % below;
 }
 
+/* Reads the range of the step: a page, the row at one of its ends, or a count. */
+static void read_range(clsm_transaction *transaction, struct step *step) {
+    const uint64_t first = step->key, last = step->last;
+    clsm_page_end end = {.rows = 0};
+    int code = CLSM_OK;
+    if (step->kind == COUNT) OK(clsm_transaction_count(transaction, first, last, &end.rows));
+    if (step->kind == READ_PAGE)
+        OK(step->falls
+               ? clsm_transaction_page_down(transaction, last, first, step->rows, PAGE, &end)
+               : clsm_transaction_page(transaction, first, last, step->rows, PAGE, &end));
+    if (step->kind == READ_END) {
+        code = step->falls ? clsm_transaction_last(transaction, first, last, step->rows)
+                           : clsm_transaction_first(transaction, first, last, step->rows);
+        CHECK(code == CLSM_OK || code == CLSM_NOT_FOUND);
+        end.rows = code == CLSM_OK;
+    }
+    step->count = end.rows;
+    step->next = end.more ? end.next : UINT64_MAX;
+}
+
 static void make_step(struct worker *self, clsm_transaction *transaction, struct step *step) {
-    clsm_page_end end;
-    step->kind = (int)draw(self, 3) == 0 ? READ_RANGE : draw(self, 2) ? READ : WRITE;
+    step->kind = (enum kind)(draw(self, 3) ? draw(self, 2) : READ_PAGE + draw(self, 3));
     step->key = draw(self, KEYS);
+    step->last = step->key + draw(self, KEYS);
+    step->falls = draw(self, 2);
     if (step->kind == READ) step->value = read_by(transaction, step->key);
     if (step->kind == WRITE) {
         step->value = draw(self, 3) ? self->words += THREADS : NO_VALUE;
         if (step->value) write_to(transaction, step->key, step->value);
         else OK(clsm_transaction_remove(transaction, step->key));
     }
-    if (step->kind != READ_RANGE) return;
-    step->last = step->key + draw(self, KEYS);
-    OK(clsm_transaction_page(transaction, step->key, step->last, step->rows, PAGE, &end));
-    step->count = end.rows;
-    step->next = end.more ? end.next : UINT64_MAX;
+    if (step->kind >= READ_PAGE) read_range(transaction, step);
 }
 
 static void *transact(void *of) {
@@ -371,15 +321,19 @@ static int by_time(const void *one, const void *other) {
 }
 
 static void replay_range(const struct step *step, const uint64_t *map) {
-    uint64_t count = 0, key = step->key;
-    for (; key < KEYS && key <= step->last; key++) {
+    const uint64_t last = step->last < KEYS ? step->last : KEYS - 1;
+    const uint64_t room = step->kind == READ_PAGE ? PAGE : step->kind == READ_END ? 1 : KEYS;
+    uint64_t count = 0, next = UINT64_MAX;
+    for (uint64_t place = step->key; place <= last; place++) {
+        const uint64_t key = step->falls ? last - (place - step->key) : place;
         if (map[key] == NO_VALUE) continue;
-        if (count == PAGE) break;
-        CHECK(step->rows[count].key == key && step->rows[count].value.words[0] == map[key]);
+        if (count == room && step->kind == READ_PAGE) next = key;
+        if (count == room) break;
+        if (step->kind != COUNT)
+            CHECK(step->rows[count].key == key && step->rows[count].value.words[0] == map[key]);
         count++;
     }
-    CHECK(count == step->count);
-    CHECK(step->next == (key < KEYS && key <= step->last ? key : UINT64_MAX));
+    CHECK(count == step->count && next == step->next);
 }
 
 static void replay(const struct made *made, uint64_t *map) {
@@ -387,7 +341,7 @@ static void replay(const struct made *made, uint64_t *map) {
         const struct step *step = &made->steps[i];
         if (step->kind == READ) CHECK(step->value == map[step->key]);
         if (step->kind == WRITE) map[step->key] = step->value;
-        if (step->kind == READ_RANGE) replay_range(step, map);
+        if (step->kind >= READ_PAGE) replay_range(step, map);
     }
 }
 
@@ -493,10 +447,8 @@ int main(int argc, char **argv) {
     conflict(caller, other);
     refuse(caller);
     use_seats(store, caller);
-    read_ranges(caller);
     note_many(caller, falling);
     note_many(caller, scattered);
-    conflict_in_ranges(caller, other);
     clsm_caller_close(caller);
     clsm_caller_close(other);
     OK(clsm_close(store));

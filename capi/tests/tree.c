@@ -6,7 +6,8 @@
 
 #include <string.h>
 
-enum { BOTTOM = 0, MANY = 200000, SMALL = 7 };
+/* So many keys that came by rising key are two nodes of each level on the right edge. */
+enum { BOTTOM = 0, MANY = (1 << 18) - 2, SMALL = 7 };
 
 static uint64_t state = 7;
 
@@ -31,21 +32,26 @@ static void check_node(const struct clsm_node *nodes, const struct clsm_node *no
     CHECK(nodes[right->right].level < node->level);
 }
 
-/* Keys rise, so those of subtrees stand on their sides; and each node is met once. */
-static void check_rules(const struct clsm_tree *tree) {
-    struct clsm_tree_place place = clsm_tree_from(tree, 0);
+/* Keys rise, or fall, so those of subtrees stand on their sides; and each node is met once. */
+static void check_order(const struct clsm_tree *tree, bool falls) {
+    struct clsm_tree_place place = clsm_tree_from(tree, falls ? UINT64_MAX : 0, falls);
     size_t count = 0;
     uint64_t before = 0;
-    if (tree->nodes) CHECK(memcmp(tree->nodes, &(struct clsm_node){0}, sizeof *tree->nodes) == 0);
     for (const clsm_row *row; (row = clsm_tree_next(&place)); clsm_tree_pass(&place)) {
         const size_t node = (size_t)(row - tree->rows) + 1;
-        CHECK(count == 0 || before < row->key);
-        CHECK(tree->nodes[node].key == row->key);
+        CHECK(count == 0 || (falls ? before > row->key : before < row->key));
+        CHECK(tree->nodes[node].key == row->key && place.count <= CLSM_TREE_DEPTH);
         check_node(tree->nodes, &tree->nodes[node]);
         before = row->key;
         count++;
     }
     CHECK(count == tree->count);
+}
+
+static void check_rules(const struct clsm_tree *tree) {
+    if (tree->nodes) CHECK(memcmp(tree->nodes, &(struct clsm_node){0}, sizeof *tree->nodes) == 0);
+    check_order(tree, false);
+    check_order(tree, true);
 }
 
 /* How many nodes a look for the key meets. */
@@ -140,8 +146,18 @@ static void cut_plain(size_t count) {
 }
 
 static void compare_from(const struct clsm_tree *tree, uint64_t key) {
-    struct clsm_tree_place place = clsm_tree_from(tree, key);
+    struct clsm_tree_place place = clsm_tree_from(tree, key, false);
     for (size_t at = place_of(key); at < plain.count; at++) {
+        const clsm_row *row = clsm_tree_next(&place);
+        CHECK(row && memcmp(row, &plain.rows[at], sizeof *row) == 0);
+        clsm_tree_pass(&place);
+    }
+    CHECK(!clsm_tree_next(&place));
+}
+
+static void compare_down_from(const struct clsm_tree *tree, uint64_t key) {
+    struct clsm_tree_place place = clsm_tree_from(tree, key, true);
+    for (size_t at = place_of(key + 1); at-- > 0;) {
         const clsm_row *row = clsm_tree_next(&place);
         CHECK(row && memcmp(row, &plain.rows[at], sizeof *row) == 0);
         clsm_tree_pass(&place);
@@ -159,6 +175,8 @@ static void compare(const struct clsm_tree *tree) {
     for (size_t i = 0; i < plain.count; i++) CHECK(tree->rows[i].key == plain.order[i]);
     compare_from(tree, key);
     compare_from(tree, 0);
+    compare_down_from(tree, key);
+    compare_down_from(tree, KEYS);
     check_rules(tree);
 }
 
@@ -187,15 +205,19 @@ static void stand_at_ends(void) {
     struct clsm_tree tree = {.count = 0};
     clsm_tree_cut(&tree, 0);
     CHECK(!clsm_tree_find(&tree, 0));
-    struct clsm_tree_place place = clsm_tree_from(&tree, 0);
+    struct clsm_tree_place place = clsm_tree_from(&tree, 0, false);
+    CHECK(!clsm_tree_next(&place));
+    place = clsm_tree_from(&tree, UINT64_MAX, true);
     CHECK(!clsm_tree_next(&place));
     set(&tree, UINT64_MAX, 1);
     set(&tree, 0, 2);
     CHECK(clsm_tree_find(&tree, UINT64_MAX) == tree.rows && !clsm_tree_find(&tree, 1));
-    place = clsm_tree_from(&tree, UINT64_MAX);
-    CHECK(clsm_tree_next(&place) == tree.rows);
-    clsm_tree_pass(&place);
-    CHECK(!clsm_tree_next(&place));
+    for (int falls = 0; falls < 2; falls++) {
+        place = clsm_tree_from(&tree, falls ? 0 : UINT64_MAX, falls);
+        CHECK(clsm_tree_next(&place) == &tree.rows[falls]);
+        clsm_tree_pass(&place);
+        CHECK(!clsm_tree_next(&place));
+    }
     clsm_tree_cut(&tree, 0);
     CHECK(!clsm_tree_find(&tree, 0) && tree.count == 0);
     clsm_tree_free(&tree);

@@ -7,7 +7,7 @@ import pickle
 import unittest
 from functools import partial
 from random import Random
-from typing import Any, Dict, List, Optional, Tuple
+from typing import Any, Callable, Dict, List, Optional, Tuple
 from unittest import mock
 
 from cupolanettle import (
@@ -27,6 +27,9 @@ from .support import SNAPSHOTS, in_threads
 EPOCH = 64
 KEYS = 12
 ROUNDS = 150
+OLD = range(2002, 2020, 4)  # keys that have a value
+
+Read = Callable[[Transaction], Any]
 
 
 class Case(unittest.TestCase):
@@ -131,6 +134,9 @@ class Alone(Case):
                 snapshots.append(self.store.snapshot())
         with self.assertRaises(NoSeat), self.store.transaction() as t:
             t.get(1)
+        for call in "count", "first", "last":
+            with self.assertRaises(NoSeat), self.store.transaction() as t:
+                getattr(t, call)()
         with self.store.transaction() as t:
             t[1] = 10
         for snapshot in snapshots:
@@ -178,6 +184,10 @@ class Alone(Case):
                 t.remove("pear")
                 self.assertEqual(t.get_many(["fig", "pear"]), [1.25, None])
                 self.assertEqual(list(t.scan("a", "z")), [("fig", 1.25)])
+                self.assertEqual(list(t.scan(reverse=True)), [("fig", 1.25)])
+                self.assertEqual((t.first(), t.last("a", "f")), (("fig", 1.25), None))
+                self.assertEqual((t.floor("pear"), t.ceiling("a")), (("fig", 1.25),) * 2)
+                self.assertEqual((t.count(), t.count("g")), (1, 0))
             self.assertEqual(list(named.scan()), [("fig", 1.25)])
             with self.assertRaises(Conflict), named.transaction() as t:
                 t["fig"] += 1
@@ -237,6 +247,117 @@ class Ranges(Case):
             t.commit()
         self.assertEqual(self.store.stats().snapshots, 0)
 
+    def look(self, read: Read, own: Dict[int, Any], key: int, value: Optional[int]) -> Any:
+        """What a transaction reads behind its own writes, and whether a write of the key is a
+        conflict then."""
+        self.store.clear()
+        self.store.update((each, 1) for each in OLD)
+        t = self.store.transaction()
+        for each, mine in own.items():
+            if mine is None:
+                t.remove(each)
+            else:
+                t[each] = mine
+        found = read(t)
+        t[1] = 10
+        self.store.batch_if({}, {key: value})
+        try:
+            t.commit()
+        except Conflict:
+            return found, True
+        return found, False
+
+    def test_conflicts_of_each_way_to_read(self) -> None:
+        """Changes from one key to another one are; of a count only those of its number."""
+        looks: List[Tuple[Read, Dict[int, Any], int, int, Any]] = [
+            (lambda t: next(t.scan(2000, 2016, reverse=True)), {}, 2014, 2015, (2014, 1)),
+            (lambda t: len(list(t.scan(2000, 2016, True))), {}, 2000, 2015, 4),
+            (lambda t: t.first(2000, 2016), {}, 2000, 2002, (2002, 1)),
+            (lambda t: t.last(2000, 2016), {}, 2014, 2015, (2014, 1)),
+            (lambda t: t.first(2003, 2006), {}, 2003, 2005, None),
+            (lambda t: t.last(2003, 2006), {}, 2003, 2005, None),
+            (lambda t: t.floor(2005), {}, 2002, 2005, (2002, 1)),
+            (lambda t: t.ceiling(2003), {}, 2003, 2006, (2006, 1)),
+            (lambda t: t.first(2000, 2016), {2002: None, 2006: None}, 2000, 2010, (2010, 1)),
+            (lambda t: t.last(2000, 2016), {2014: None, 2012: 3}, 2012, 2015, (2012, 3)),
+        ]
+        for read, own, first, last, wanted in looks:
+            for key in range(1999, 2019):
+                for value in None, 2:
+                    is_conflict = first <= key <= last and (key in OLD or value is not None)
+                    with self.subTest(wanted=wanted, key=key, value=value):
+                        found = self.look(read, own, key, value)
+                        self.assertEqual(found, (wanted, is_conflict))
+
+    def test_conflicts_of_counts(self) -> None:
+        """What comes, what goes, and what the keys have that it wrote itself."""
+        owns: List[Dict[int, Any]] = [{}, {2002: None, 2006: 3, 2012: 3}, {1999: 3, 2018: None}]
+        for own in owns:
+            for key in range(1999, 2019):
+                for value in None, 2:
+                    is_same = key in OLD and value is not None and key not in own
+                    is_conflict = 2000 <= key < 2016 and not is_same
+                    is_conflict = is_conflict and (key in OLD or value is not None)
+                    with self.subTest(own=own, key=key, value=value):
+                        found = self.look(lambda t: t.count(2000, 2016), own, key, value)
+                        self.assertEqual(found, (4, is_conflict))
+
+    def test_a_count_of_as_many_other_keys(self) -> None:
+        """It is the same, unless one of them is its own."""
+        for own, is_conflict in (2003, True), (2002, True), (2007, False):
+            self.store.clear()
+            self.store.update((each, 1) for each in OLD)
+            t = self.store.transaction()
+            t[own] = 3
+            self.assertEqual(t.count(2000, 2016), 4 if own == 2002 else 5)
+            self.store.batch_if({}, {2002: None, 2003: 1})
+            with self.subTest(own=own):
+                if is_conflict:
+                    self.assertRaises(Conflict, t.commit)
+                else:
+                    t.commit()
+
+    def test_they_begin_a_transaction(self) -> None:
+        """Each may be the first read, whose moment is that of the others."""
+        reads: List[Read] = [
+            lambda t: t.count(),
+            lambda t: t.first(),
+            lambda t: t.last(),
+            lambda t: t.floor(9),
+            lambda t: t.ceiling(1),
+            lambda t: list(t.scan(reverse=True)),
+        ]
+        for read in reads:
+            self.store.clear()
+            self.store.update({3: 30, 7: 70})
+            t = self.store.transaction()
+            read(t)
+            self.store.update({1: 10, 3: 31, 9: 90})
+            self.assertEqual((t.count(), t.first(), t.last()), (2, (3, 30), (7, 70)))
+            self.assertEqual((t.floor(9), t.ceiling(1)), ((7, 70), (3, 30)))
+            self.assertEqual(list(t.scan(reverse=True)), [(7, 70), (3, 30)])
+            t.cancel()
+        self.assertEqual(self.store.stats().snapshots, 0)
+
+    def test_the_ends_of_all_keys(self) -> None:
+        greatest = 2**64 - 1
+        self.store.update({0: 1, greatest: 2})
+        with self.store.transaction() as t:
+            self.assertEqual((t.first(), t.last()), ((0, 1), (greatest, 2)))
+            self.assertEqual((t.floor(0), t.ceiling(greatest)), ((0, 1), (greatest, 2)))
+            self.assertEqual((t.count(), t.count(1), t.count(0, greatest)), (2, 1, 1))
+            self.assertEqual((t.first(5, 5), t.last(5, 4), t.count(5, 4)), (None, None, 0))
+            self.assertEqual(list(t.scan(5, 4, reverse=True)), [])
+            t.remove(0)
+            t.remove(greatest)
+            self.assertEqual((t.first(), t.last(), t.count()), (None, None, 0))
+            self.assertEqual((t.floor(greatest), t.ceiling(0)), (None, None))
+            for call in t.first, t.last, t.count, t.floor, t.ceiling:
+                self.assertRaises(ValueError, call, -1)
+            for call in t.floor, t.ceiling:
+                self.assertRaises(ValueError, call, 2**64)
+        self.assertEqual(self.rows(), [])
+
     def test_own_writes_are_among_the_rows(self) -> None:
         random = Random(7)
         model: Dict[int, Value] = {key: key for key in range(0, 400, 2)}
@@ -252,6 +373,10 @@ class Ranges(Case):
             start, stop = sorted(random.sample(range(401), 2))
             wanted = [(key, model[key]) for key in sorted(model) if start <= key < stop]
             self.assertEqual(list(t.scan(start, stop)), wanted)
+            self.assertEqual(list(t.scan(start, stop, reverse=True)), wanted[::-1])
+            self.assertEqual(t.count(start, stop), len(wanted))
+            self.assertEqual(t.first(start, stop), wanted[0] if wanted else None)
+            self.assertEqual(t.last(start, stop), wanted[-1] if wanted else None)
         t.cancel()
         self.assertEqual(self.store.count(), 200)
 
@@ -303,11 +428,14 @@ class Threads(unittest.TestCase):
             def run(t: Transaction) -> None:
                 steps.clear()
                 for _ in range(random.randrange(1, 5)):
-                    key, kind = random.randrange(KEYS), random.randrange(3)
+                    key, kind = random.randrange(KEYS), random.randrange(4)
                     if kind == 0:
                         steps.append(("get", key, t.get(key)))
                     elif kind == 1:
                         steps.append(("scan", key, list(t.scan(key, key + 5))))
+                    elif kind == 2:
+                        ends = t.first(key, key + 5), t.last(key, key + 5)
+                        steps.append(("ends", key, (t.count(key, key + 5), *ends)))
                     else:
                         value = words if random.randrange(3) else None
                         t.remove(key) if value is None else t.__setitem__(key, value)
@@ -329,6 +457,10 @@ class Threads(unittest.TestCase):
                 elif kind == "scan":
                     wanted = [(k, model[k]) for k in sorted(model) if key <= k < key + 5]
                     self.assertEqual(found, wanted)
+                elif kind == "ends":
+                    wanted = [(k, model[k]) for k in sorted(model) if key <= k < key + 5]
+                    ends = (wanted[0], wanted[-1]) if wanted else (None, None)
+                    self.assertEqual(found, (len(wanted), *ends))
                 elif found is None:
                     model.pop(key, None)
                 else:

@@ -113,6 +113,27 @@ static uint64_t rows_of(clsm_transaction *transaction, clsm_row rows[KEYS + ROOM
     return count;
 }
 
+/* What it reads downwards, counts and finds at both ends is what it read upwards. */
+static void read_again(clsm_transaction *transaction, const clsm_row *rows, uint64_t count) {
+    clsm_row again[KEYS + 1], ends[ROOM];
+    clsm_page_end end;
+    uint64_t keys;
+    int code = clsm_transaction_page_down(transaction, KEYS, 0, again, KEYS + 1, &end);
+    expect_code(code, 0, "transaction_page_down");
+    for (uint64_t i = 0; i < end.rows && end.rows == count; i++)
+        expect(memcmp(&again[i], &rows[count - 1 - i], sizeof *again) == 0, "rows are the same");
+    code = clsm_transaction_count(transaction, 0, KEYS, &keys);
+    expect_code(code, 0, "transaction_count");
+    expect(end.rows == count && !end.more && keys == count, "it has as many rows");
+    code = clsm_transaction_first(transaction, 0, KEYS, &ends[0]);
+    expect_code(code, OR(NOT_FOUND), "transaction_first");
+    expect((code == CLSM_OK) == (count > 0), "it has a first row, if it has one");
+    if (count == 0) return;
+    code = clsm_transaction_last(transaction, 0, KEYS, &ends[1]);
+    expect_code(code, 0, "transaction_last");
+    expect(ends[0].key == rows[0].key && ends[1].key == rows[count - 1].key, "ends are the same");
+}
+
 /* Reads a key, several, and all of them: the first one of these is its moment. */
 static void read_by(clsm_transaction *transaction, uint64_t who, uint64_t own) {
     static const uint64_t keys[KEYS_READ] = {2, 1, 0};
@@ -127,6 +148,7 @@ static void read_by(clsm_transaction *transaction, uint64_t who, uint64_t own) {
     expect(!own || (count > 0 && rows[others].key == KEYS && rows[others].value.words[0] == own),
            "it reads its own write");
     note_rows(time, rows, others, 0, KEYS);
+    read_again(transaction, rows, count);
 }
 
 /* Twice: first to its end, where it has written nothing, and so has no conflict; then with a write

@@ -36,6 +36,7 @@ Itself = TypeVar("Itself", bound="Transaction")
 RANGE_COUNT = struct.Struct("=3Q")
 _ROW = struct.Struct("=10Q")
 _ROWS_AT_A_TIME = 64
+_GREATEST_KEY = 2**64 - 1
 
 
 def _words_in(packed: bytes) -> Optional[Value]:
@@ -93,12 +94,17 @@ class Transaction:
         own = self._writes.get(number)
         return self._reads[number] if own is None else own[0]
 
-    def _read(self, numbers: List[int]) -> List[Optional[Value]]:
-        reads, writes = self._reads, self._writes
-        unknown = [number for number in numbers if number not in writes and number not in reads]
+    def _look(self, numbers: List[int]) -> None:
+        """Reads what the keys have in the snapshot, where it has not."""
+        reads = self._reads
+        unknown = [number for number in numbers if number not in reads]
         if unknown:
             found = core.Snapshot._get_many(self._reader(), unknown)
             reads.update(zip(unknown, found))
+
+    def _read(self, numbers: List[int]) -> List[Optional[Value]]:
+        writes = self._writes
+        self._look([number for number in numbers if number not in writes])
         return [self._found(number) for number in numbers]
 
     def __getitem__(self, key: int) -> Value:
@@ -151,11 +157,13 @@ class Transaction:
         """
         return self._read([self._store._number(key)])[0] is not None
 
-    def scan(self, start: Optional[int] = None, stop: Optional[int] = None) -> Iterator[Row]:
-        """The rows from ``start`` on and below ``stop``, by rising key, with its own writes.
+    def scan(
+        self, start: Optional[int] = None, stop: Optional[int] = None, reverse: bool = False
+    ) -> Iterator[Row]:
+        """The rows from ``start`` on and below ``stop``, by rising or falling key, with its own writes.
 
-        It has read the range up to the last row that it gave, or to its end: what others change
-        there is a conflict. What it writes behind the first row is for the next scan.
+        It has read the range up to the last row that it gave, or all of it at its end: what others
+        change there is a conflict. What it writes behind the first row is for the next scan.
         ``RuntimeError`` if the transaction has ended since then.
 
         >>> with Store() as store:
@@ -163,21 +171,97 @@ class Transaction:
         ...     with store.transaction() as t:
         ...         t[5] = 50
         ...         t.remove(7)
-        ...         list(t.scan())
-        [(3, 30), (5, 50)]
+        ...         list(t.scan()), next(t.scan(reverse=True))
+        ([(3, 30), (5, 50)], (5, 50))
         """
-        return self._scan(*self._store._range(start, stop))
+        return self._scan(*self._store._range(start, stop), bool(reverse), _ROWS_AT_A_TIME)
 
-    def _scan(self, first: int, last: int) -> Iterator[Row]:
+    def first(self, start: Optional[int] = None, stop: Optional[int] = None) -> Optional[Row]:
+        """The row of the least key from ``start`` on and below ``stop`` with a value, if any.
+
+        It has read the range up to that key, or all of it if there is none.
+
+        >>> with Store() as store:
+        ...     store.update({3: 30, 7: 70})
+        ...     with store.transaction() as t:
+        ...         t.remove(3)
+        ...         t.first(), t.first(8)
+        ((7, 70), None)
+        """
+        return self._end(*self._store._range(start, stop), False)
+
+    def last(self, start: Optional[int] = None, stop: Optional[int] = None) -> Optional[Row]:
+        """The row of the greatest key from ``start`` on and below ``stop`` with a value, if any.
+
+        It has read the range down to that key, or all of it if there is none.
+
+        >>> with Store() as store:
+        ...     store.update({3: 30, 7: 70})
+        ...     with store.transaction() as t:
+        ...         t[9] = 90
+        ...         t.last(), t.last(0, 9), t.last(0, 3)
+        ((9, 90), (7, 70), None)
+        """
+        return self._end(*self._store._range(start, stop), True)
+
+    def floor(self, key: int) -> Optional[Row]:
+        """The row of the greatest key that has a value and is not above this one, if any.
+
+        >>> with Store() as store, store.transaction() as t:
+        ...     t[3] = 30
+        ...     t.floor(3), t.floor(7), t.floor(2)
+        ((3, 30), (3, 30), None)
+        """
+        return self._end(0, self._store._number(key), True)
+
+    def ceiling(self, key: int) -> Optional[Row]:
+        """The row of the least key that has a value and is not below this one, if any.
+
+        >>> with Store() as store, store.transaction() as t:
+        ...     t[7] = 70
+        ...     t.ceiling(7), t.ceiling(3), t.ceiling(8)
+        ((7, 70), (7, 70), None)
+        """
+        return self._end(self._store._number(key), _GREATEST_KEY, False)
+
+    def count(self, start: Optional[int] = None, stop: Optional[int] = None) -> int:
+        """How many keys from ``start`` on and below ``stop`` have a value to it; visits all of them.
+
+        It has read their number: others may write other values there, or remove as many keys as
+        they add, but for the keys that it has written itself.
+
+        >>> with Store() as store:
+        ...     store.update({3: 30, 7: 70})
+        ...     with store.transaction() as t:
+        ...         t[5] = 50
+        ...         t.count(), t.count(4), t.count(4, 7)
+        (3, 2, 1)
+        """
+        first, last = self._store._range(start, stop)
+        count = core.Snapshot._count(self._reader(), first, last)
+        own = [number for number in self._writes if first <= number <= last]
+        self._look(own)
+        self._ranges.append([first, last, count])
+        for number in own:
+            count += (self._writes[number][0] is not None) - (self._reads[number] is not None)
+        return count
+
+    def _end(self, first: int, last: int, falls: bool) -> Optional[Row]:
+        """The first row of a scan, which reads no further."""
+        return next(self._scan(first, last, falls, 1), None)
+
+    def _scan(self, first: int, last: int, falls: bool, room: int) -> Iterator[Row]:
         store = self._store
         writes = self._writes
-        numbers = sorted(number for number in writes if first <= number <= last)
-        own = {number: writes[number][0] for number in numbers}
+        numbers = [number for number in writes if first <= number <= last]
+        own = {number: writes[number][0] for number in sorted(numbers, reverse=falls)}
         covered = [1, 0, 0]  # so far: no key, of which none has a value
         ranges = self._ranges
         ranges.append(covered)
-        for number, words, is_there in self._merged(first, last, own):
-            covered[:] = first, number, covered[2] + is_there
+        rows = core.Rows(self._reader(), first, last, room, _ROWS_AT_A_TIME, False, falls)
+        for number, words, is_there in self._merged(rows, own, falls):
+            ends = (number, last) if falls else (first, number)
+            covered[:] = *ends, covered[2] + is_there
             if words is not None:
                 yield store._key_of(number), store._decoded(words)
                 if self._ranges is not ranges:
@@ -185,15 +269,14 @@ class Transaction:
         covered[:] = first, last, covered[2]
 
     def _merged(
-        self, first: int, last: int, own: Dict[int, Optional[Value]]
+        self, rows: Iterator[Row], own: Dict[int, Optional[Value]], falls: bool
     ) -> Iterator[Tuple[int, Optional[Value], bool]]:
         """The keys that the snapshot has and its own, each with what it has, and whether the snapshot
         has it."""
         places = iter(own)
         mine = next(places, None)
-        rows = core.Rows(self._reader(), first, last, _ROWS_AT_A_TIME, _ROWS_AT_A_TIME, False)
         for number, words in rows:
-            while mine is not None and mine < number:
+            while mine is not None and (mine > number if falls else mine < number):
                 yield mine, own[mine], False
                 mine = next(places, None)
             self._reads[number] = words

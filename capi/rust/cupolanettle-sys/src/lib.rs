@@ -501,6 +501,22 @@ unsafe extern "C" {
     pub fn clsm_transaction_page(transaction: *mut Transaction, first: u64, last: u64,
         rows: *mut Row, room: usize, end: *mut PageEnd) -> c_int;
 
+    /// The last rows of the range by falling key, with its own writes among them.
+    pub fn clsm_transaction_page_down(transaction: *mut Transaction, last: u64, first: u64,
+        rows: *mut Row, room: usize, end: *mut PageEnd) -> c_int;
+
+    /// The row of the least key of the range that has a value to it.
+    pub fn clsm_transaction_first(transaction: *mut Transaction, first: u64, last: u64,
+        row: *mut Row) -> c_int;
+
+    /// The row of the greatest key of the range that has a value to it.
+    pub fn clsm_transaction_last(transaction: *mut Transaction, first: u64, last: u64,
+        row: *mut Row) -> c_int;
+
+    /// How many keys of the range have a value to it.
+    pub fn clsm_transaction_count(transaction: *mut Transaction, first: u64, last: u64,
+        keys: *mut u64) -> c_int;
+
     /// Notes a write of so many words at the key.
     pub fn clsm_transaction_put(transaction: *mut Transaction, key: u64, words: *const u64,
         count: usize) -> c_int;

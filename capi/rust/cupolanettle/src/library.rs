@@ -119,6 +119,7 @@ type TimeOf<K> = unsafe extern "C" fn(*const K) -> u64;
 type Get<K> = unsafe extern "C" fn(*mut K, u64, *mut raw::Value) -> Code;
 type GetMany<K> = unsafe extern "C" fn(*mut K, *const u64, usize, *mut raw::Value) -> Code;
 type Count<K> = unsafe extern "C" fn(*mut K, u64, u64, *mut u64) -> Code;
+type EndOf = unsafe extern "C" fn(*mut raw::Transaction, u64, u64, *mut raw::Row) -> Code;
 type Page<K> =
     unsafe extern "C" fn(*mut K, u64, u64, *mut raw::Row, usize, *mut raw::PageEnd) -> Code;
 
@@ -489,16 +490,44 @@ impl OpenTransaction<'_> {
         unsafe { raw::clsm_transaction_get_many(self.place(), from, keys.len(), into) }
     }
 
-    /// Reads the first rows of the range, as many as the slice has, and answers where it ends.
-    pub(crate) fn page(&mut self, keys: Keys, rows: &mut [raw::Row]) -> (Code, raw::PageEnd) {
+    /// Reads the first rows of the range, or the last ones by falling key, as many as the slice
+    /// has, and answers where it ends.
+    pub(crate) fn page(
+        &mut self,
+        keys: Keys,
+        falls: bool,
+        rows: &mut [raw::Row],
+    ) -> (Code, raw::PageEnd) {
         let mut end = raw::PageEnd::default();
         let (into, room) = (rows.as_mut_ptr(), rows.len());
         let Keys { first, last } = keys;
-        // SAFETY: as in `get`, and there is room for so many rows.
-        let code = unsafe {
-            raw::clsm_transaction_page(self.place(), first, last, into, room, &raw mut end)
+        let (call, from, to): (Page<raw::Transaction>, _, _) = if falls {
+            (raw::clsm_transaction_page_down, last, first)
+        } else {
+            (raw::clsm_transaction_page, first, last)
         };
+        // SAFETY: as in `get`, and there is room for so many rows.
+        let code = unsafe { call(self.place(), from, to, into, room, &raw mut end) };
         (code, end)
+    }
+
+    /// The row of the least key of the range, or of the greatest one.
+    pub(crate) fn end(&mut self, keys: Keys, falls: bool) -> (Code, raw::Row) {
+        let mut row = raw::Row::default();
+        let call: EndOf =
+            if falls { raw::clsm_transaction_last } else { raw::clsm_transaction_first };
+        // SAFETY: as in `get`, and `row` is of this frame.
+        let code = unsafe { call(self.place(), keys.first, keys.last, &raw mut row) };
+        (code, row)
+    }
+
+    pub(crate) fn count(&mut self, keys: Keys) -> (Code, u64) {
+        let mut count = 0;
+        let Keys { first, last } = keys;
+        // SAFETY: as in `get`, and `count` is of this frame.
+        let code =
+            unsafe { raw::clsm_transaction_count(self.place(), first, last, &raw mut count) };
+        (code, count)
     }
 
     pub(crate) fn put(&mut self, key: u64, value: &[u64]) -> Code {

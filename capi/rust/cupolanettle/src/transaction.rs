@@ -121,23 +121,63 @@ impl<'a> Transaction<'a> {
         keys: impl RangeBounds<u64>,
         most: usize,
     ) -> Result<Page, TransactError> {
+        self.read_page(Keys::of(&keys), false, most)
+    }
+
+    /// The last rows of the range by falling key, at most so many, with its own writes among them.
+    /// The next page ends at the key that is told as the next one, and down to that it has read the
+    /// range, or all of it, as by [`page`](Transaction::page).
+    ///
+    /// # Errors
+    ///
+    /// [`TransactError::NoSeat`], [`TransactError::Memory`].
+    ///
+    /// ```
+    /// # use cupolanettle::{Error, Options};
+    /// # let store = Options::new().keys(1_000).open()?;
+    /// # let caller = store.caller()?;
+    /// caller.put(3, 30)?;
+    /// caller.put(5, 50)?;
+    /// let page = caller.transact(|t| {
+    ///     t.put(7, 70)?;
+    ///     Ok::<_, Error>(t.page_down(..10, 2)?)
+    /// })?;
+    /// assert_eq!((page.rows, page.next), (vec![(7, 70.into()), (5, 50.into())], Some(3)));
+    /// # Ok::<(), Error>(())
+    /// ```
+    #[doc(alias("prev", "reverse", "descending"))]
+    pub fn page_down(
+        &mut self,
+        keys: impl RangeBounds<u64>,
+        most: usize,
+    ) -> Result<Page, TransactError> {
+        self.read_page(Keys::of(&keys), true, most)
+    }
+
+    fn read_page(
+        &mut self,
+        mut left: Keys,
+        falls: bool,
+        most: usize,
+    ) -> Result<Page, TransactError> {
         let mut page = Page::default();
-        let mut left = Keys::of(&keys);
         loop {
             let room = ROWS_OF_A_PART.min(most - page.rows.len());
-            page.next = self.read_part(left, room, &mut page.rows)?;
+            page.next = self.read_part(left, falls, room, &mut page.rows)?;
             match page.next {
+                Some(last) if falls && page.rows.len() < most => left.last = last,
                 Some(first) if page.rows.len() < most => left.first = first,
                 _ => return Ok(page),
             }
         }
     }
 
-    /// Adds the first rows of the range, up to so many, and answers the key of the next one. Parts
-    /// that follow one another are of one moment.
+    /// Adds the first rows of the range, or the last ones, up to so many, and answers the key of
+    /// the next one. Parts that follow one another are of one moment.
     fn read_part(
         &mut self,
         keys: Keys,
+        falls: bool,
         room: usize,
         rows: &mut Vec<(u64, Value)>,
     ) -> Result<Option<u64>, TransactError> {
@@ -145,11 +185,95 @@ impl<'a> Transaction<'a> {
         read.try_reserve_exact(room).map_err(|_| Memory)?;
         rows.try_reserve(room).map_err(|_| Memory)?;
         read.resize(room, raw::Row::default());
-        match self.open.page(keys, &mut read) {
+        match self.open.page(keys, falls, &mut read) {
             (raw::OK, end) => {
                 rows.extend(read.iter().filter_map(pair));
                 Ok(end.more.then_some(end.next))
             }
+            (code, _) => Err(TransactError::of(code)),
+        }
+    }
+
+    /// The row of the least key of the range that has a value to it, if there is one. It has read
+    /// the range up to that key, or all of it: what others change behind it is no conflict.
+    ///
+    /// # Errors
+    ///
+    /// [`TransactError::NoSeat`], [`TransactError::Memory`].
+    ///
+    /// ```
+    /// # use cupolanettle::{Error, Options};
+    /// # let store = Options::new().keys(1_000).open()?;
+    /// # let caller = store.caller()?;
+    /// caller.put(3, 30)?;
+    /// caller.put(5, 50)?;
+    /// let next = caller.transact(|t| {
+    ///     t.remove(3)?;
+    ///     Ok::<_, Error>(t.first(..)?)
+    /// })?;
+    /// assert_eq!(next, Some((5, 50.into())));
+    /// # Ok::<(), Error>(())
+    /// ```
+    #[doc(alias("first_key_value", "front", "min", "seek"))]
+    pub fn first(
+        &mut self,
+        keys: impl RangeBounds<u64>,
+    ) -> Result<Option<(u64, Value)>, TransactError> {
+        found(self.open.end(Keys::of(&keys), false))
+    }
+
+    /// The row of the greatest key of the range that has a value to it, if there is one, as
+    /// [`first`](Transaction::first) that of the least.
+    ///
+    /// # Errors
+    ///
+    /// [`TransactError::NoSeat`], [`TransactError::Memory`].
+    ///
+    /// ```
+    /// # use cupolanettle::{Error, Options};
+    /// # let store = Options::new().keys(1_000).open()?;
+    /// # let caller = store.caller()?;
+    /// caller.put(5, 50)?;
+    /// let key = caller.transact(|t| {
+    ///     let key = t.last(..100)?.map_or(0, |(last, _)| last + 1);
+    ///     t.put(key, 10 * key)?;
+    ///     Ok::<_, Error>(key)
+    /// })?;
+    /// assert_eq!((key, caller.get(6)), (6, Some(60.into())));
+    /// # Ok::<(), Error>(())
+    /// ```
+    #[doc(alias("last_key_value", "back", "max", "seek_for_prev"))]
+    pub fn last(
+        &mut self,
+        keys: impl RangeBounds<u64>,
+    ) -> Result<Option<(u64, Value)>, TransactError> {
+        found(self.open.end(Keys::of(&keys), true))
+    }
+
+    /// How many keys of the range have a value to it. It has read their number: others may write
+    /// other values there, or remove as many keys as they add, but for the keys that it has written
+    /// itself. It walks all of them, once more as it ends.
+    ///
+    /// # Errors
+    ///
+    /// [`TransactError::NoSeat`], [`TransactError::Memory`].
+    ///
+    /// ```
+    /// # use cupolanettle::{Error, Options};
+    /// # let store = Options::new().keys(1_000).open()?;
+    /// # let caller = store.caller()?;
+    /// caller.put(7, 70)?;
+    /// let counts = caller.transact(|t| {
+    ///     t.put(8, 80)?;
+    ///     Ok::<_, Error>((t.count(..)?, t.count(8..)?))
+    /// })?;
+    /// assert_eq!(counts, (2, 1));
+    /// # Ok::<(), Error>(())
+    /// ```
+    #[doc(alias("len", "size"))]
+    pub fn count(&mut self, keys: impl RangeBounds<u64>) -> Result<u64, TransactError> {
+        match self.open.count(Keys::of(&keys)) {
+            (raw::OK, count) => Ok(count),
             (code, _) => Err(TransactError::of(code)),
         }
     }
@@ -228,6 +352,14 @@ impl<'a> Transaction<'a> {
             raw::CONFLICT => Ok(Err(Conflict)),
             code => Err(TransactError::of(code)),
         }
+    }
+}
+
+fn found((code, row): (Code, raw::Row)) -> Result<Option<(u64, Value)>, TransactError> {
+    match code {
+        raw::OK => Ok(pair(&row)),
+        raw::NOT_FOUND => Ok(None),
+        code => Err(TransactError::of(code)),
     }
 }
 

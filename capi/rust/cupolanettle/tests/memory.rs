@@ -139,22 +139,26 @@ fn a_range_from_its_end_takes_memory_once() -> Result<(), Error> {
     Ok(())
 }
 
-/// What is refused in it ends it, and is not written.
+/// What is refused in it ends it, and is not written. A count does without memory for the rows of
+/// others, which its seat keeps from the first one on.
 #[test]
 fn a_transaction() -> Result<(), Error> {
     let (_store, caller) = filled()?;
+    assert_eq!(caller.transact(|t| t.count(..))?, ROWS);
     let run = || {
         caller.transact(|t| {
             t.put(0, 1)?;
             let found = t.get_many(&[1, 2, 3])?;
-            Ok::<_, TransactError>((found.len(), t.page(.., 5)?.rows.len()))
+            let rows = t.page(.., 5)?.rows.len() + t.page_down(.., 7)?.rows.len();
+            assert_eq!((t.first(..)?, t.count(..)?), (Some((0, 1.into())), ROWS));
+            Ok::<_, TransactError>((found.len(), rows))
         })
     };
     for count in 0..MANY {
         let (came, is_refused) = with_allocations(count, run);
         let Err(refused) = came else {
             assert!(count > 3 && !is_refused);
-            assert_eq!((came, caller.get(0)), (Ok((3, 5)), Some(1.into())));
+            assert_eq!((came, caller.get(0)), (Ok((3, 12)), Some(1.into())));
             return Ok(());
         };
         assert_eq!((refused, is_refused), (TransactError::Memory, true));

@@ -1,7 +1,8 @@
 //! Transactions: what one reads of its own and of others, what ends it, and that those of several
 //! threads have the effect that they have one after another.
 use cupolanettle::{
-    Batch, Conditions, Conflict, Error, NoSeat, Options, Refused, Store, TransactError, Value,
+    Batch, Conditions, Conflict, Error, NoSeat, Options, Refused, Store, TransactError,
+    Transaction, Value,
 };
 use std::ops::Bound;
 use std::thread;
@@ -110,10 +111,17 @@ fn keys_at_both_ends() -> Result<(), Error> {
     let above = (Bound::Excluded(u64::MAX), Bound::Unbounded);
     let rows = caller.transact(|t| {
         assert_eq!((t.page(above, 9)?.rows.len(), t.page(..0, 9)?.rows.len()), (0, 0));
+        assert_eq!((t.page_down(above, 9)?.rows, t.page_down(..0, 9)?.rows), (vec![], vec![]));
+        assert_eq!((t.first(above)?, t.last(..0)?), (None, None));
+        assert_eq!((t.count(above)?, t.count(..0)?, t.count(..)?), (0, 0, 4));
+        assert_eq!((t.page_down(.., 3)?.next, t.page_down(..=0, 0)?.next), (Some(0), Some(0)));
+        assert_eq!((t.last(..)?, t.first(u64::MAX..)?), (t.first(u64::MAX..)?, t.last(1..)?));
         assert_eq!(t.page(u64::MAX.., 0)?.next, Some(u64::MAX));
         assert_eq!(t.page(1..u64::MAX, 9)?.rows.len(), 2);
         t.remove(0)?;
         t.remove(u64::MAX)?;
+        assert_eq!((t.first(..)?, t.first(..=0)?), (Some((1, 1.into())), None));
+        assert_eq!((t.last(..)?.map(|row| row.0), t.count(..)?), (Some(u64::MAX - 1), 2));
         assert_eq!(t.add(u64::MAX - 1, 2)?, None);
         assert_eq!(t.get_many(&[u64::MAX, u64::MAX, 1])?, [None, None, Some(1.into())]);
         Ok::<_, Error>(t.page(.., 9)?.rows)
@@ -160,6 +168,10 @@ fn refusals() -> Result<(), Error> {
     assert_eq!((long, caller.is_empty()), (Err(TransactError::TooLong), true));
     let callers: Vec<_> = (1..64).map(|_| store.caller()).collect::<Result<_, _>>()?;
     assert_eq!(caller.transact(|t| t.get(1)), Err(TransactError::NoSeat));
+    assert_eq!(caller.transact(|t| t.page_down(.., 1)), Err(TransactError::NoSeat));
+    assert_eq!(caller.transact(|t| t.first(..)), Err(TransactError::NoSeat));
+    assert_eq!(caller.transact(|t| t.last(..)), Err(TransactError::NoSeat));
+    assert_eq!(caller.transact(|t| t.count(..)), Err(TransactError::NoSeat));
     caller.transact(|t| t.put(1, 10))?;
     drop(callers);
     assert_eq!(caller.transact(|t| t.get(1))?, Some(10.into()));
@@ -275,13 +287,74 @@ fn pages_without_a_bound() -> Result<(), Error> {
         assert_eq!((page.rows[0], page.rows[3]), ((2, 1.into()), (7, 70.into())));
     }
     for into in [1, 2_047, 2_049, 9_999] {
-        let ended = caller.transact_up_to(1, |t| {
-            t.page(.., usize::MAX)?;
-            t.put(3, 30)?;
-            other.put(into, 1).map_err(TransactError::from)
-        });
-        assert_eq!(ended, Err(TransactError::Conflict));
-        other.remove(into)?;
+        for falls in [false, true] {
+            let ended = caller.transact_up_to(1, |t| {
+                let page =
+                    if falls { t.page_down(.., usize::MAX)? } else { t.page(.., usize::MAX)? };
+                assert_eq!(page.rows.len(), 1_500);
+                t.put(3, 30)?;
+                other.put(into, 1).map_err(TransactError::from)
+            });
+            assert_eq!(ended, Err(TransactError::Conflict));
+            other.remove(into)?;
+        }
+    }
+    Ok(())
+}
+
+#[test]
+fn pages_by_falling_key() -> Result<(), Error> {
+    let caller = small().open()?.caller()?;
+    for key in 0..1_500 {
+        caller.put(2 * key, key)?;
+    }
+    for most in [0, 1, 1_024, 1_025, 1_499, 1_500, usize::MAX] {
+        let (down, mut up) = caller.transact(|t| {
+            t.remove(2_998)?;
+            t.put(7, 70)?;
+            let (down, up) = (t.page_down(.., most)?, t.page(.., usize::MAX)?);
+            assert_eq!(t.page_down(..=down.next.unwrap_or(0), 0)?.next, down.next.or(Some(0)));
+            t.remove(7)?;
+            t.put(2_998, 1_499)?;
+            Ok::<_, Error>((down, up))
+        })?;
+        up.rows.reverse();
+        assert_eq!(down.rows, up.rows[..most.min(1_500)]);
+        assert_eq!(down.next, up.rows.get(most).map(|row| row.0));
+    }
+    Ok(())
+}
+
+/// What one of these has read, and what it has not: whether a write of the key is a conflict.
+#[test]
+fn ranges_are_read_as_far_as_they_are_looked_at() -> Result<(), Error> {
+    type Look = fn(&mut Transaction<'_>) -> Result<(), TransactError>;
+    let looks: [(Look, [u64; 4]); 5] = [
+        (|t| t.first(10..).map(drop), [10, 11, 15, 20]),
+        (|t| t.last(..=50).map(drop), [40, 41, 45, 50]),
+        (|t| t.page_down(..=50, 1).map(drop), [30, 40, 41, 50]),
+        (|t| t.count(15..=45).map(drop), [15, 25, 31, 45]),
+        (|t| t.put(30, 3).and(t.count(15..=45)).map(drop), [15, 25, 30, 45]),
+    ];
+    let store = small().open()?;
+    let (caller, other) = (store.caller()?, store.caller()?);
+    for (look, conflicts) in looks {
+        for key in [9, 10, 11, 14, 15, 20, 25, 30, 31, 40, 41, 45, 50, 51] {
+            caller.clear()?;
+            for old in [20, 30, 40] {
+                caller.put(old, 1)?;
+            }
+            other.follow(caller.seen()).unwrap();
+            let ended = caller.transact_up_to(1, |t| {
+                look(t)?;
+                t.put(100, 1)?;
+                other.put(key, 2).map(drop).map_err(TransactError::from)
+            });
+            let is_read = (conflicts[0]..=conflicts[3]).contains(&key);
+            let counts = conflicts[1] == 25;
+            let is_same = counts && [20, 30, 40].contains(&key) && !conflicts.contains(&key);
+            assert_eq!(ended == Err(TransactError::Conflict), is_read && !is_same, "{key}");
+        }
     }
     Ok(())
 }
