@@ -31,7 +31,7 @@ ROUNDS = 150
 
 class Case(unittest.TestCase):
     def setUp(self) -> None:
-        self.store = Store(keys=10_000, epoch=EPOCH)
+        self.store: Store[int, Any] = Store(keys=10_000, epoch=EPOCH)
         self.addCleanup(self.store.close)
 
     def rows(self) -> List[Tuple[int, Value]]:
@@ -95,7 +95,7 @@ class Alone(Case):
                 t[2] = t.get(3, 1) // 0
         self.assertEqual((self.rows(), self.store.stats().snapshots), ([], 0))
 
-        def fail(t: Transaction) -> None:
+        def fail(t: Transaction[int, Any]) -> None:
             t[1] = t.get(1, 0) // 0
 
         self.assertRaises(ZeroDivisionError, self.store.transact, fail)
@@ -119,7 +119,7 @@ class Alone(Case):
         self.assertEqual(self.rows(), [])
 
     def test_refusals(self) -> None:
-        def write(t: Transaction) -> None:
+        def write(t: Transaction[int, Any]) -> None:
             for key in range(EPOCH + 1):
                 t[key] = 0
 
@@ -260,8 +260,8 @@ class Running(Case):
     def test_again_after_a_conflict(self) -> None:
         runs = []
 
-        def run(t: Transaction) -> int:
-            old: Any = t.get(1, 0)
+        def run(t: Transaction[int, Any]) -> int:
+            old: int = t.get(1, 0)
             t[2] = old
             runs.append(old)
             if len(runs) < 4:
@@ -271,7 +271,7 @@ class Running(Case):
         self.assertEqual((self.store.transact(run), self.store[2]), (31, 30))
         self.assertEqual(runs, [0, 10, 20, 30])
 
-        def lose(t: Transaction) -> None:
+        def lose(t: Transaction[int, Any]) -> None:
             t[2] = t[1]
             runs.append(self.store.add(1))
 
@@ -281,7 +281,7 @@ class Running(Case):
     def test_many_conflicts_in_a_row(self) -> None:
         """The pause between two runs grows up to a millisecond, and not further."""
 
-        def lose(t: Transaction) -> None:
+        def lose(t: Transaction[int, Any]) -> None:
             t[2] = t.get(1, 0)
             self.store.add(1)
 
@@ -293,14 +293,14 @@ class Running(Case):
 
 
 class Threads(unittest.TestCase):
-    def work(self, store: Store, made: List[Any], seed: int) -> None:
+    def work(self, store: Store[int, Any], made: List[Any], seed: int) -> None:
         """Random transactions, each with its time, what it read, and what it wrote."""
         random = Random(seed)
         for number in range(ROUNDS):
             words = 1 + seed * ROUNDS + number
             steps: List[Any] = []
 
-            def run(t: Transaction) -> None:
+            def run(t: Transaction[int, Any]) -> None:
                 steps.clear()
                 for _ in range(random.randrange(1, 5)):
                     key, kind = random.randrange(KEYS), random.randrange(3)
@@ -348,7 +348,7 @@ class Threads(unittest.TestCase):
     def test_one_of_two_stays(self) -> None:
         """Each thread looks at both keys, and takes one: not both."""
 
-        def take(t: Transaction, own: int) -> None:
+        def take(t: Transaction[int, Any], own: int) -> None:
             one, other = t.get(10), t.get(11)
             self.assertTrue(one or other)
             if one and other:
