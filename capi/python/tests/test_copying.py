@@ -299,7 +299,7 @@ class AddingInTransactions(unittest.TestCase):
             store.add(1)
             self.assertRaises(cupolanettle.Conflict, t.commit)
 
-            def count(t: cupolanettle.Transaction) -> object:
+            def count(t: cupolanettle.Transaction[int, Value]) -> object:
                 return t.add(1)
 
             in_threads([lambda: [store.transact(count, 10_000) for _ in range(100)]] * 4)

@@ -147,7 +147,7 @@ def run_transaction(store: Store[int, Value]) -> None:
 def conflict(store: Store[int, Value]) -> None:
     """The second run of a transaction, behind a conflict."""
 
-    def run(t: Transaction) -> None:
+    def run(t: Transaction[int, Value]) -> None:
         t[4] = t.get(8, 0)
         if 3 not in store:
             store[3] = store[8] = 3

@@ -34,7 +34,7 @@ Read = Callable[[Transaction], Any]
 
 class Case(unittest.TestCase):
     def setUp(self) -> None:
-        self.store = Store(keys=10_000, epoch=EPOCH)
+        self.store: Store[int, Any] = Store(keys=10_000, epoch=EPOCH)
         self.addCleanup(self.store.close)
 
     def rows(self) -> List[Tuple[int, Value]]:
@@ -98,7 +98,7 @@ class Alone(Case):
                 t[2] = t.get(3, 1) // 0
         self.assertEqual((self.rows(), self.store.stats().snapshots), ([], 0))
 
-        def fail(t: Transaction) -> None:
+        def fail(t: Transaction[int, Any]) -> None:
             t[1] = t.get(1, 0) // 0
 
         self.assertRaises(ZeroDivisionError, self.store.transact, fail)
@@ -122,7 +122,7 @@ class Alone(Case):
         self.assertEqual(self.rows(), [])
 
     def test_refusals(self) -> None:
-        def write(t: Transaction) -> None:
+        def write(t: Transaction[int, Any]) -> None:
             for key in range(EPOCH + 1):
                 t[key] = 0
 
@@ -352,9 +352,10 @@ class Ranges(Case):
             t.remove(greatest)
             self.assertEqual((t.first(), t.last(), t.count()), (None, None, 0))
             self.assertEqual((t.floor(greatest), t.ceiling(0)), (None, None))
-            for call in t.first, t.last, t.count, t.floor, t.ceiling:
+            calls: List[Callable[[int], object]] = [t.floor, t.ceiling, t.first, t.last, t.count]
+            for call in calls:
                 self.assertRaises(ValueError, call, -1)
-            for call in t.floor, t.ceiling:
+            for call in calls[:2]:
                 self.assertRaises(ValueError, call, 2**64)
         self.assertEqual(self.rows(), [])
 
@@ -385,8 +386,8 @@ class Running(Case):
     def test_again_after_a_conflict(self) -> None:
         runs = []
 
-        def run(t: Transaction) -> int:
-            old: Any = t.get(1, 0)
+        def run(t: Transaction[int, Any]) -> int:
+            old: int = t.get(1, 0)
             t[2] = old
             runs.append(old)
             if len(runs) < 4:
@@ -396,7 +397,7 @@ class Running(Case):
         self.assertEqual((self.store.transact(run), self.store[2]), (31, 30))
         self.assertEqual(runs, [0, 10, 20, 30])
 
-        def lose(t: Transaction) -> None:
+        def lose(t: Transaction[int, Any]) -> None:
             t[2] = t[1]
             runs.append(self.store.add(1))
 
@@ -406,7 +407,7 @@ class Running(Case):
     def test_many_conflicts_in_a_row(self) -> None:
         """The pause between two runs grows up to a millisecond, and not further."""
 
-        def lose(t: Transaction) -> None:
+        def lose(t: Transaction[int, Any]) -> None:
             t[2] = t.get(1, 0)
             self.store.add(1)
 
@@ -418,14 +419,14 @@ class Running(Case):
 
 
 class Threads(unittest.TestCase):
-    def work(self, store: Store, made: List[Any], seed: int) -> None:
+    def work(self, store: Store[int, Any], made: List[Any], seed: int) -> None:
         """Random transactions, each with its time, what it read, and what it wrote."""
         random = Random(seed)
         for number in range(ROUNDS):
             words = 1 + seed * ROUNDS + number
             steps: List[Any] = []
 
-            def run(t: Transaction) -> None:
+            def run(t: Transaction[int, Any]) -> None:
                 steps.clear()
                 for _ in range(random.randrange(1, 5)):
                     key, kind = random.randrange(KEYS), random.randrange(4)
@@ -480,7 +481,7 @@ class Threads(unittest.TestCase):
     def test_one_of_two_stays(self) -> None:
         """Each thread looks at both keys, and takes one: not both."""
 
-        def take(t: Transaction, own: int) -> None:
+        def take(t: Transaction[int, Any], own: int) -> None:
             one, other = t.get(10), t.get(11)
             self.assertTrue(one or other)
             if one and other:

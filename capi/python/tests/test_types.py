@@ -65,7 +65,7 @@ def total(counts: Mapping[str, int]) -> int:
     return sum(counts.values())
 
 
-def transfer(t: Transaction, amount: int) -> bool:
+def transfer(t: Transaction[int, Value], amount: int) -> bool:
     held = t[1]
     if not isinstance(held, int) or held < amount:
         return False
@@ -194,6 +194,11 @@ class Coded(unittest.TestCase):
             with store.copy(keys=10) as copy:
                 row: Optional[Tuple[str, int]] = copy.pop_last("g", "p")
             self.assertEqual(row, ("lime", 5))
+            with store.transaction() as t:
+                moved: Transaction[str, int] = t
+                moved["fig"] -= 2
+                sum_of_two: int = moved.add("lime", moved["fig"])
+            self.assertEqual(sum_of_two, 2)
 
     def test_what_is_refused(self) -> None:
         with Store(key=text, value=signed) as store:
@@ -211,7 +216,7 @@ class Coded(unittest.TestCase):
 
 class AtRunTime(unittest.TestCase):
     def test_types_are_written_as_those_of_a_dict(self) -> None:
-        kinds: List[Any] = [Store, Snapshot, Rows, Batch]
+        kinds: List[Any] = [Store, Snapshot, Rows, Batch, Transaction]
         for kind in kinds:
             self.assertIs(kind[str, int].__origin__, kind)
 

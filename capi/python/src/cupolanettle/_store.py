@@ -302,13 +302,7 @@ class Store(core.Store, Writer[K, V]):
         """
         return Batch(self)
 
-    @overload
-    def transaction(self: Store[int, Value]) -> Transaction: ...
-
-    @overload
-    def transaction(self) -> Any: ...
-
-    def transaction(self) -> Any:
+    def transaction(self) -> Transaction[K, V]:
         """A transaction: it reads one moment, and its writes are made if that still stands.
 
         They are made at the end of its ``with``; :class:`Conflict` if others have changed what it
@@ -324,15 +318,7 @@ class Store(core.Store, Writer[K, V]):
         """
         return Transaction(self)
 
-    @overload
-    def transact(
-        self: Store[int, Value], function: Callable[[Transaction], Answer], tries: int = ...
-    ) -> Answer: ...
-
-    @overload
-    def transact(self, function: Callable[[Any], Answer], tries: int = ...) -> Answer: ...
-
-    def transact(self, function: Callable[[Any], Answer], tries: int = 100) -> Answer:
+    def transact(self, function: Callable[[Transaction[K, V]], Answer], tries: int = 100) -> Answer:
         """Runs the function on a transaction, again after a conflict. What the function answers.
 
         It runs so many times at most, and once at least, after pauses that grow up to a

@@ -8,6 +8,7 @@ from typing import (
     TYPE_CHECKING,
     Any,
     Dict,
+    Generic,
     Iterable,
     Iterator,
     List,
@@ -23,14 +24,15 @@ from typing import (
 
 from . import _core as core
 from ._errors import Code, Conflict, Error
-from ._values import NONE, Row, Value, rows_of
+from ._values import NONE, K, Row, V, Value, rows_of
 
 if TYPE_CHECKING:
     from ._reading import Default
     from ._snapshot import Snapshot
     from ._store import Store
 
-Itself = TypeVar("Itself", bound="Transaction")
+Itself = TypeVar("Itself", bound="Transaction[Any, Any]")
+Sum = TypeVar("Sum", float, str, bytes)
 
 # A range, and how many of its keys have a value, as the library has them.
 RANGE_COUNT = struct.Struct("=3Q")
@@ -48,7 +50,7 @@ def _words_in(packed: bytes) -> Optional[Value]:
     return numbers[first] if count == 1 else numbers[first : first + count]
 
 
-class Transaction:
+class Transaction(Generic[K, V]):
     """Reads the map of one moment, that of its first read, with its own writes in it.
 
     With ``with``, its writes are made at its end, all at one moment, if all that it read still has
@@ -71,18 +73,18 @@ class Transaction:
     # A class with __getitem__ would otherwise be asked for the keys 0, 1, 2 ..
     __iter__: None = None
 
-    def __init__(self, store: Store) -> None:
+    def __init__(self, store: Store[K, V]) -> None:
         self._store = store
         self._begin()
 
     def _begin(self) -> None:
-        self._snapshot: Optional[Snapshot] = None
+        self._snapshot: Optional[Snapshot[K, V]] = None
         # What it read, and what it is to write with that as the library has it, by numbers.
         self._reads: Dict[int, Optional[Value]] = {}
         self._writes: Dict[int, Tuple[Optional[Value], bytes]] = {}
         self._ranges: List[List[int]] = []
 
-    def _reader(self) -> Snapshot:
+    def _reader(self) -> Snapshot[K, V]:
         if self._snapshot is None:
             self._snapshot = self._store.snapshot()
         return self._snapshot
@@ -107,7 +109,7 @@ class Transaction:
         self._look([number for number in numbers if number not in writes])
         return [self._found(number) for number in numbers]
 
-    def __getitem__(self, key: int) -> Value:
+    def __getitem__(self, key: K) -> V:
         """The value that the key has to it; ``KeyError`` if it has none.
 
         >>> with Store() as store, store.transaction() as t:
@@ -115,18 +117,18 @@ class Transaction:
         ...     t[7]
         70
         """
-        value: Optional[Value] = self.get(key)
+        value = self.get(key)
         if value is None:
             raise KeyError(key)
         return value
 
     @overload
-    def get(self, key: int) -> Optional[Value]: ...
+    def get(self, key: K) -> Optional[V]: ...
 
     @overload
-    def get(self, key: int, default: Default) -> Union[Value, Default]: ...
+    def get(self, key: K, default: Default) -> Union[V, Default]: ...
 
-    def get(self, key: int, default: object = None) -> Any:
+    def get(self, key: K, default: object = None) -> Any:
         """The value that the key has to it, or the default if it has none.
 
         >>> with Store() as store, store.transaction() as t:
@@ -136,7 +138,7 @@ class Transaction:
         words = self._read([self._store._number(key)])[0]
         return default if words is None else self._store._decoded(words)
 
-    def get_many(self, keys: Iterable[int]) -> List[Optional[Value]]:
+    def get_many(self, keys: Iterable[K]) -> List[Optional[V]]:
         """The values of the keys, each at the place of its key; ``None`` for none.
 
         >>> with Store() as store, store.transaction() as t:
@@ -147,7 +149,7 @@ class Transaction:
         found = self._read([self._store._number(key) for key in keys])
         return [self._store._decoded(words) for words in found]
 
-    def __contains__(self, key: int) -> bool:
+    def __contains__(self, key: object) -> bool:
         """Whether the key has a value to it.
 
         >>> with Store() as store, store.transaction() as t:
@@ -158,8 +160,8 @@ class Transaction:
         return self._read([self._store._number(key)])[0] is not None
 
     def scan(
-        self, start: Optional[int] = None, stop: Optional[int] = None, reverse: bool = False
-    ) -> Iterator[Row]:
+        self, start: Optional[K] = None, stop: Optional[K] = None, reverse: bool = False
+    ) -> Iterator[Tuple[K, V]]:
         """The rows from ``start`` on and below ``stop``, by rising or falling key, with its own writes.
 
         It has read the range up to the last row that it gave, or all of it at its end: what others
@@ -176,7 +178,9 @@ class Transaction:
         """
         return self._scan(*self._store._range(start, stop), bool(reverse), _ROWS_AT_A_TIME)
 
-    def first(self, start: Optional[int] = None, stop: Optional[int] = None) -> Optional[Row]:
+    def first(
+        self, start: Optional[K] = None, stop: Optional[K] = None
+    ) -> Optional[Tuple[K, V]]:
         """The row of the least key from ``start`` on and below ``stop`` with a value, if any.
 
         It has read the range up to that key, or all of it if there is none.
@@ -190,7 +194,9 @@ class Transaction:
         """
         return self._end(*self._store._range(start, stop), False)
 
-    def last(self, start: Optional[int] = None, stop: Optional[int] = None) -> Optional[Row]:
+    def last(
+        self, start: Optional[K] = None, stop: Optional[K] = None
+    ) -> Optional[Tuple[K, V]]:
         """The row of the greatest key from ``start`` on and below ``stop`` with a value, if any.
 
         It has read the range down to that key, or all of it if there is none.
@@ -204,7 +210,7 @@ class Transaction:
         """
         return self._end(*self._store._range(start, stop), True)
 
-    def floor(self, key: int) -> Optional[Row]:
+    def floor(self, key: K) -> Optional[Tuple[K, V]]:
         """The row of the greatest key that has a value and is not above this one, if any.
 
         >>> with Store() as store, store.transaction() as t:
@@ -214,7 +220,7 @@ class Transaction:
         """
         return self._end(0, self._store._number(key), True)
 
-    def ceiling(self, key: int) -> Optional[Row]:
+    def ceiling(self, key: K) -> Optional[Tuple[K, V]]:
         """The row of the least key that has a value and is not below this one, if any.
 
         >>> with Store() as store, store.transaction() as t:
@@ -224,7 +230,7 @@ class Transaction:
         """
         return self._end(self._store._number(key), _GREATEST_KEY, False)
 
-    def count(self, start: Optional[int] = None, stop: Optional[int] = None) -> int:
+    def count(self, start: Optional[K] = None, stop: Optional[K] = None) -> int:
         """How many keys from ``start`` on and below ``stop`` have a value to it; visits all of them.
 
         It has read their number: others may write other values there, or remove as many keys as
@@ -246,11 +252,11 @@ class Transaction:
             count += (self._writes[number][0] is not None) - (self._reads[number] is not None)
         return count
 
-    def _end(self, first: int, last: int, falls: bool) -> Optional[Row]:
+    def _end(self, first: int, last: int, falls: bool) -> Optional[Tuple[K, V]]:
         """The first row of a scan, which reads no further."""
         return next(self._scan(first, last, falls, 1), None)
 
-    def _scan(self, first: int, last: int, falls: bool, room: int) -> Iterator[Row]:
+    def _scan(self, first: int, last: int, falls: bool, room: int) -> Iterator[Tuple[K, V]]:
         store = self._store
         writes = self._writes
         numbers = [number for number in writes if first <= number <= last]
@@ -289,7 +295,7 @@ class Transaction:
 
     # ---- Writes, which nobody sees before its end
 
-    def __setitem__(self, key: int, value: Value) -> None:
+    def __setitem__(self, key: K, value: V) -> None:
         """Notes a write of the value at the key; ``ValueError`` as for ``store[key] = value``.
 
         >>> with Store() as store:
@@ -303,7 +309,13 @@ class Transaction:
             raise TypeError(NONE)
         self._note(key, value)
 
-    def update(self, rows: Union[Mapping[int, Value], Iterable[Row]]) -> None:
+    @overload
+    def update(self, rows: Mapping[K, V]) -> None: ...
+
+    @overload
+    def update(self, rows: Iterable[Tuple[K, V]]) -> None: ...
+
+    def update(self, rows: Any) -> None:
         """Notes a write of each row of a mapping, or of an iterable of pairs, in its order.
 
         What one of them raises ends it, with those before it noted.
@@ -317,11 +329,11 @@ class Transaction:
         for key, value in rows_of(rows):
             self[key] = value
 
-    def _note(self, key: int, value: Optional[Value]) -> None:
+    def _note(self, key: K, value: Optional[V]) -> None:
         packed = self._store._pack(key, value)
         self._writes[self._store._number(key)] = _words_in(packed), packed
 
-    def remove(self, key: int) -> None:
+    def remove(self, key: K) -> None:
         """Notes the removal of the key, whether or not it has a value.
 
         >>> with Store() as store:
@@ -333,7 +345,18 @@ class Transaction:
         """
         self._note(key, None)
 
-    def add(self, key: int, by: int = 1) -> Value:
+    @overload
+    def add(
+        self: Union[Transaction[K, Value], Transaction[K, int]], key: K, by: int = ...
+    ) -> int: ...
+
+    @overload
+    def add(self: Transaction[K, Sum], key: K, by: Sum = ...) -> Sum: ...
+
+    @overload
+    def add(self, key: K, by: V = ...) -> Any: ...
+
+    def add(self, key: K, by: Any = 1) -> Any:
         """Adds to the int that the key has to it, or to 0 if it has no value. The sum.
 
         It reads the key, and notes the sum. Raises what :meth:`Store.add` raises of its arguments,
@@ -343,11 +366,11 @@ class Transaction:
         ...     t.add(7), t.add(7, 5), t[7]
         (1, 6, 6)
         """
-        total = self._store._sum(self.get(key), by)
+        total: Any = self._store._sum(self.get(key), by)
         self[key] = total
         return total
 
-    def __delitem__(self, key: int) -> None:
+    def __delitem__(self, key: K) -> None:
         """Notes the removal of the key; ``KeyError`` if it has no value.
 
         >>> with Store() as store, store.transaction() as t:

@@ -48,7 +48,7 @@ class Writer(Reader[K, V]):
         """As :meth:`_end`, without codecs."""
         raise NotImplementedError
 
-    def _sum(self, old: Optional[Value], by: int) -> Value:
+    def _sum(self, old: Any, by: Any) -> Any:
         """What the key has once this was added."""
         added = word_of(by)
         if isinstance(old, tuple):
