@@ -392,12 +392,29 @@ static void copy(clsm_store *store, uint64_t keys, int merge) {
     OK(clsm_close(other));
 }
 
-static void use_all_calls(int merge) {
-    enum { KEYS = 600 };
+enum { KEYS = 600 };
+
+/* A store with these keys, and its caller. */
+static clsm_store *filled(int merge, clsm_caller **caller) {
     clsm_store *store = opened(&(clsm_options){.keys = 640, .epoch = 16, .merge = merge});
+    OK(clsm_caller_open(store, caller));
+    for (uint64_t key = 0; key < KEYS; key++) OK(clsm_put(*caller, key, &key, 1));
+    return store;
+}
+
+/* No seat has had rows of its own before. */
+static void use_scans(int merge) {
     clsm_caller *caller;
-    OK(clsm_caller_open(store, &caller));
-    for (uint64_t key = 0; key < KEYS; key++) OK(clsm_put(caller, key, &key, 1));
+    clsm_store *store = filled(merge, &caller);
+    read_scan(caller, KEYS);
+    read_scan(caller, KEYS);
+    clsm_caller_close(caller);
+    OK(clsm_close(store));
+}
+
+static void use_all_calls(int merge) {
+    clsm_caller *caller;
+    clsm_store *store = filled(merge, &caller);
     OK(clsm_get(caller, 5, NULL));
     write_batches(caller, KEYS);
     write_batches_if(caller, KEYS);
@@ -412,8 +429,6 @@ static void use_all_calls(int merge) {
     read_pages(caller, KEYS);
     read_long_pages(caller, KEYS);
     read_many(caller, KEYS);
-    read_scan(caller, KEYS);
-    read_scan(caller, KEYS);
     clsm_caller_close(caller);
     OK(clsm_close(store));
 }
@@ -447,6 +462,7 @@ static void refuse_each(void (*use)(int), int merge) {
 }
 
 int main(void) {
+    refuse_each(use_scans, 0);
     refuse_each(use_all_calls, 0);
     refuse_each(use_all_calls, CLSM_MERGE_IN_CALLS);
     refuse_each(use_large_tables, 0);
