@@ -59,7 +59,7 @@ for kind in ("antt", "rt"):
                     if n in other or n in own: continue
                     e = re.escape(n)
                     if re.search(rf"[({{](?:[\w']+ )*{e}(?: [\w']+)* :|λ (?:\(?[\w']+ )*\(?{e}\b|\blet {e}\b|pub mod {e}\b|open [\w.]+ use|[(] ?(?:[\w']+, )*{e}(?:, [\w']+)*[)]", text) \
-                            or re.search(rf"^ *[\w'\-]+(?: [^=:\n]*)? {e}\b[^=:\n]*=", text, re.M) or (rt and re.search(rf"\b{e}: |\b(?:requires|ensures) {e} |\bfn {e}\b|\b(?:let|mut) {e}\b", text)): continue
+                            or re.search(rf"^ *[\w'\-]+(?: [^=:\n]*)?[ (]{e}\b[^=:\n]*=", text, re.M) or (rt and re.search(rf"\b{e}: |\b(?:requires|ensures) {e} |\bfn {e}\b|\b(?:let|mut) {e}\b", text)): continue
                     say("NO SCOPE", f"{rel}:{text.count(chr(10),0,at)+1}", n, "|", text[text.rfind(chr(10),0,at)+1:text.find(chr(10),at)].strip()[:110])
             # unused: an import whose name is used nowhere
             for i in imps:
