@@ -585,7 +585,8 @@ int main(void) {
     call_again();
     leave_room_to_batches();
     leave_no_room_to_nobody();
-    leave_no_room_behind_refusal();
+    /* Often: the merger may be so fast that nothing is to be seen. */
+    for (int i = 0; i < 20; i++) leave_no_room_behind_refusal();
     wear_out(0);
     wear_out(CLSM_MERGE_IN_CALLS);
     run_back();
